@@ -1,0 +1,4 @@
+pub mod Settings
+pub mod Input
+pub mod Threads
+pub mod Measuring
