@@ -1,5 +1,5 @@
 ghost use mathlib.Core.Path.{_≡_};
-ghost use Rattle.lines.specs.Lines.{Written, reading-line};
+ghost use Rattle.lines.specs.Lines.{reading-line, Reads-back};
 use crate::forms::LineForm;
 use crate::forms::put_line;
 use crate::hex::four_bytes;
@@ -13,14 +13,30 @@ pub struct Reading {
     pub value: i32,
 }
 
+/// The same line. That it can be read back is proved here.
+fn readable(reading: Reading, line: [u8; 13]) -> [u8; 13]
+    requires { ⌜ line ≡ reading-line reading ⌝ }
+    ensures same { λ r. ⌜ r ≡ line ⌝ }
+    ensures back { λ r. ⌜ Reads-back reading r ⌝ }
+{
+    line
+}
+
 impl Reading {
-    /// The reading's line: its label and its value.
-    pub fn line(&self) -> [u8; 13]
+    fn bytes(&self) -> [u8; 13]
         ensures { λ r. ⌜ r ≡ reading-line (now (self .entry)) ⌝ }
     {
         let [l0, l1, l2, l3] = two_bytes(self.label);
         let [v0, v1, v2, v3, v4, v5, v6, v7] = four_bytes(self.value);
         [l0, l1, l2, l3, v0, v1, v2, v3, v4, v5, v6, v7, b'\n']
+    }
+
+    /// The reading's line: its label and its value.
+    pub fn line(&self) -> [u8; 13]
+        ensures value { λ r. ⌜ r ≡ reading-line (now (self .entry)) ⌝ }
+        ensures back { λ r. ⌜ Reads-back (now (self .entry)) r ⌝ }
+    {
+        readable(*self, self.bytes())
     }
 }
 
@@ -28,6 +44,6 @@ pub impl LineForm for Reading as ReadingLineForm {
     ghost line = { reading-line };
 
     fn write_line(&self, out: &mut [u8]) -> Result<usize, Refusal> {
-        put_line(&self.line(), out)
+        put_line(&self.bytes(), out)
     }
 }

@@ -6,7 +6,7 @@ use mathlib.Core.Logic.{_⊎_, inl, inr}
 use native.Mathlib.Omega.{arith}
 use borrow.Author.Count.{below-more}
 use lib.IntN.{ℤ, pos}
-use lib.ListN.{set, getD, take, length, replicate}
+use lib.ListN.{getD, take, length, replicate}
 use mir.Syntax.{w32}
 use mir.Val.{SFits, toZ, ofZ}
 use Rattle.std.proofs.shelf.Counted.{map-counting-more}
@@ -24,10 +24,10 @@ use Rattle.staircase.specs.declared.progress.Progress.{Progress}
 use Rattle.staircase.specs.declared.taps.Tap.{Tap}
 use Rattle.staircase.specs.declared.taps.Tap.the-variants.{Seen, NotSeen}
 use Rattle.staircase.specs.Taps.{message-of, tap-in}
-use Rattle.staircase.specs.Progress.{Bounded, work-of, judged}
+use Rattle.staircase.specs.Progress.{Bounded, judged}
 use Rattle.staircase.specs.Steps.{start}
-use Rattle.staircase.proofs.Folds.{after, after-more, after-line, after-reversals}
-use Rattle.staircase.proofs.Stages.{progress-back, judged-bounded, judged-climbs, start-bounded}
+use Rattle.staircase.proofs.Judging.{progress-back, judged-climbs, after, after-more, after-line, after-reversals}
+use Rattle.staircase.proofs.Stages.{start-bounded, judged-fits}
 use Rattle.measurement.specs.declared.threads.Thread.{Thread}
 use Rattle.measurement.specs.Threads.{started, stepped, asked, emitted, waiting, Waits}
 use Rattle.measurement.specs.Measuring.{line-at, reversals-at, lines-before}
@@ -41,18 +41,13 @@ module _ (s : Staircase) where
   begins = let e = progress-back (start s) (start-bounded s) in simp e
 
   module _ (p : Progress) (fits : Bounded 15 p) (less : p .reversals < s .«wanted_reversals») (t : Tap) where
-    pub still-fits : Bounded 15 (judged t p)
-    still-fits =
-        let few : p .reversals ≤ 14 = omega (arith, s .«few_wanted») in
-        judged-bounded t 14 p (record { line-exists = fits .line-exists; short-run = fits .short-run; few = few })
-
     -- too few reversals still: the next line is shown
     pub shows-next : judged t p .reversals < s .«wanted_reversals» →
         (stepped s Done (stepped s (Got (message-of t)) (waiting s p)) ≡ waiting s (judged t p))
         × (asked s Done (stepped s (Got (message-of t)) (waiting s p)) ≡ Ok Receive)
     shows-next l =
         let a = progress-back p fits in
-        let b = progress-back (judged t p) still-fits in
+        let b = progress-back (judged t p) (judged-fits s p t fits less) in
         let c = heard t in
         let d = lt-leb _ _ l in
         (simp (a, c, d, b, set-set), simp (a, c, d, b))
@@ -62,7 +57,7 @@ module _ (s : Staircase) where
         asked s Done (stepped s (Got (message-of t)) (waiting s p)) ≡ Ok (Emit (pos (judged t p .line)))
     gives-result l =
         let a = progress-back p fits in
-        let b = progress-back (judged t p) still-fits in
+        let b = progress-back (judged t p) (judged-fits s p t fits less) in
         let c = heard t in
         let d = le-leb _ _ l in
         simp (a, c, d, b)
@@ -134,7 +129,7 @@ module _ (s : Staircase) (taps : List Tap) where
               f ∙ ap (λ x. emitted (asked s Done (stepped s (Got (message-of tap)) x))) (sits .is) ∙ ap emitted (n .1),
               record {
                 is = e ∙ ap (λ x. stepped s Done (stepped s (Got (message-of tap)) x)) (sits .is) ∙ n .0 ∙ ap (waiting s) (sym q-is);
-                fits = subst (Bounded 15) (sym q-is) (still-fits s p (sits .fits) few tap);
+                fits = subst (Bounded 15) (sym q-is) (judged-fits s p tap (sits .fits) few);
                 less = below-more (λ k. reversals-at taps k < s .«wanted_reversals») (i + 1) (sits .less) (rw reversals-is l);
               },
             )

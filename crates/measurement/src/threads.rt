@@ -1,9 +1,7 @@
 ghost use mathlib.Core.Path.{_≡_};
-ghost use Rattle.std.specs.declared.result.Result.the-variants.{Ok};
 ghost use Rattle.model.specs.declared.threads.Answer.the-variants.{Done, Got};
 ghost use Rattle.staircase.specs.Taps.{message-of};
-ghost use Rattle.staircase.specs.Steps.{start};
-ghost use Rattle.measurement.specs.Threads.{started, written, stepped, asked, emitted, waiting, Waits};
+ghost use Rattle.measurement.specs.Threads.{started, written, stepped, asked, emitted, Waits};
 use model::faults::Fault;
 use model::machines::Machine;
 use model::sides::CELLS;
@@ -60,6 +58,7 @@ impl Thread {
             work: [0; 4],
             cells: [0; CELLS],
         };
+        // Neither step can fault: the first sets the numbers, and the second shows the start line.
         let _ = thread.step(staircase, Answer::Done);
         let _ = thread.step(staircase, Answer::Done);
         thread

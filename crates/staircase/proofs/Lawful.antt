@@ -1,37 +1,35 @@
 -- The laws of a staircase's runs. Assumes nothing.
-use Prim.Native.Nat.{ℕ, _<_}
-use mathlib.Core.Path.{_≡_, refl, sym, ap, subst, _∙_}
+use Prim.Native.Nat.{ℕ, _≤_}
+use mathlib.Core.Path.{_≡_, refl, sym, ap, _∙_}
 use mathlib.Core.Logic.{_⊎_, inl, inr}
 use mathlib.Core.List.{List, [], _∷_, _++_}
-use mathlib.Core.Bool.{Bool, true, false, not, _&&_}
+use mathlib.Core.Bool.{Bool, true, false}
 use native.Mathlib.Omega.{arith}
 use native.Mathlib.Nat.{zero-add}
-use lib.Dec.{leb, eqb}
 use lib.IntN.{ℤ, pos, _+ℤ_}
-use lib.Signed.{_≤ℤ_, leZ}
+use lib.Signed.{_≤ℤ_}
 use Rattle.std.proofs.shelf.Signed.{ints}
-use Rattle.std.proofs.shelf.Tests.{le-leb, lt-leb, ne-eqb}
+use Rattle.std.proofs.shelf.Tests.{le-leb, lt-leb, false≢true}
 use Rattle.std.specs.shelf.Lists.{All}
 use Rattle.std.specs.declared.option.Option.the-variants.{Some, None}
-use Rattle.model.specs.declared.threads.Request.the-variants.{Emit, Stop}
 use Rattle.std.specs.declared.result.Result.{Result}
 use Rattle.std.specs.declared.result.Result.the-variants.{Ok, Err}
 use Rattle.model.specs.declared.faults.Fault.{Fault}
 use Rattle.model.specs.declared.threads.Answer.{Answer}
 use Rattle.model.specs.declared.threads.Answer.the-variants.{Done, Got, Fork}
+use Rattle.model.specs.declared.threads.Request.the-variants.{Emit, Stop}
 use Rattle.model.specs.Runs.{Moment, Run, place-after, work-after}
 use Rattle.staircase.specs.declared.Staircase.{Staircase}
+use Rattle.staircase.specs.declared.phases.Phase.the-variants.{Judge}
 use Rattle.staircase.specs.declared.progress.Progress.{Progress}
 use Rattle.staircase.specs.declared.taps.Tap.{Tap}
-use Rattle.staircase.specs.Progress.{Bounded, work-of, judged}
-use Rattle.staircase.specs.declared.phases.Phase.the-variants.{Judge}
 use Rattle.staircase.specs.Taps.{tap-in}
+use Rattle.staircase.specs.Progress.{Bounded, work-of, judged}
 use Rattle.staircase.specs.Steps.{means, does, start}
-use Rattle.staircase.specs.Laws.{line-in, reversals-of, tap-at, taps-in, emits, is-emit, reached, just-reached, Climbs, Line-stays, Reversals-climb, Result-in-time, Result-is-last-line, Taps-decide, Faults-by-message, Lawful}
-use Rattle.staircase.proofs.Folds.{pending, line-then, reversals-then, then-none, then-more}
-use Rattle.staircase.proofs.Stages.{judged-climbs, Open, Full, Went, idle, more, full, start-bounded, step-begin, step-open, step-full, step-over, stands, at-show, at-report, at-judge}
+use Rattle.staircase.specs.Laws.{line-in, reversals-of, tap-at, taps-in, emits, is-emit, reached, just-reached, Climbs, Lawful}
+use Rattle.staircase.proofs.Judging.{judged-climbs, line-then, reversals-then, then-none, then-more}
+use Rattle.staircase.proofs.Stages.{Stage, going, due, over, is-due, Is-over, Leads, Judges, keeps, judges, At, Next, start-bounded, first, step, stands, at-show, at-judge, at-report}
 
--- the thread's numbers are those of a progress
 line-is : {w : List ℤ} (p : Progress) → w ≡ work-of p → line-in w ≡ pos (p .line)
 line-is p e = ap line-in e
 
@@ -39,172 +37,172 @@ reversals-are : {w : List ℤ} (p : Progress) → w ≡ work-of p → reversals-
 reversals-are p e = ap reversals-of e
 
 module _ (s : Staircase) where
-  -- where a thread may stand after its first step: its measurement is open, due for its report, or over
-  data Stage (place : ℕ) (w : List ℤ) : Type 0 where
-    going : (p : Progress) → Open s place w p → Stage place w
-    due : (p : Progress) → Full s 3 place w p → Stage place w
-    over : (p : Progress) → Full s 4 place w p → Stage place w
+  -- only a message that is no tap is a fault
+  By-message : Answer → Fault → Type 0
+  By-message a f = (v : ℤ) × (a ≡ Got v) × (tap-in v ≡ Err f)
 
-  -- and before it
-  data Standing (place : ℕ) (w : List ℤ) : Type 0 where
-    fresh : place ≡ 0 → Standing place w
-    stage : Stage place w → Standing place w
+  judge-faults : (p : Progress) (a : Answer) (f : Fault) → does s (work-of p) (Judge p) a ≡ Err f → By-message a f
+  unfolding By-message
+  judge-faults p Done f e = absurd (grind arith)
+  judge-faults p (Fork g) f e = absurd (grind arith)
+  judge-faults p (Got v) f e = go (tap-in v) refl
+    where
+      go : (r : Result Tap Fault) → tap-in v ≡ r → (x : ℤ) × (Got v ≡ Got x) × (tap-in x ≡ Err f)
+      go (Ok t) i = let z = simp i at e in absurd (grind arith)
+      go (Err g) i = let z = simp i at e in let same : g ≡ f = cc in (v, refl, i ∙ ap Err same)
 
-  abbrev Then : Moment → Type 0
-  Then x = Stage (x .outcome .place) (x .outcome .work)
+  faults-at : (k : Stage) {place : ℕ} {w : List ℤ} (p : Progress) (cells : List ℤ) (a : Answer) (f : Fault) → At s k place w p →
+      means s place w cells a ≡ Err f → By-message a f
+  faults-at going p cells a f t e = elim (t .here) [
+    | inl h ↦ let g = sym (at-show s p cells a (t .fits)) ∙ stands s cells a h (t .is) e in absurd (grind arith)
+    | inr h ↦ judge-faults p a f (sym (at-judge s p cells a (t .fits)) ∙ stands s cells a h (t .is) e)
+  ]
+  faults-at due p cells a f t e =
+      let g = sym (at-report s p cells a (t .fits)) ∙ stands s cells a (t .here) (t .is) e in absurd (grind arith)
+  faults-at over p cells a f t e = let g = stands s cells a (t .here) (t .is) e in absurd (grind arith)
 
-  abbrev Steps : ℕ → List ℤ → Moment → Type 0
-  Steps place w x = means s place w (x .cells) (x .answer) ≡ Ok (x .outcome)
+  -- a thread's stage and progress, and what its next step does
+  record Ready (place : ℕ) (w : List ℤ) : Type 0 where
+    k : Stage
+    p : Progress
+    fits : Bounded 15 p
+    is : is-due k ≡ true → w ≡ work-of p
+    next : (x : Moment) → x .place ≡ place → means s place w (x .cells) (x .answer) ≡ Ok (x .outcome) → Next s k p x
+    faults : (cells : List ℤ) (a : Answer) (f : Fault) → means s place w cells a ≡ Err f → By-message a f
 
-  went-on : (p : Progress) (x : Moment) → Went s p x → Then x
-  went-on p x (idle none quiet o) = going p o
-  went-on p x (more t tap quiet o) = going (judged t p) o
-  went-on p x (full t tap quiet f) = due (judged t p) f
+  abbrev fresh : (w : List ℤ) → Ready 0 w
+  fresh w =
+      record {
+        k = going;
+        p = start s;
+        fits = start-bounded s;
+        is = λ e. absurd (false≢true e);
+        next = first s w;
+        faults = λ cells a f e. absurd (grind arith);
+      }
 
-  after-report : {place : ℕ} {w : List ℤ} (p : Progress) (x : Moment) → Full s 3 place w p → Steps place w x →
-      Full s 4 (x .outcome .place) (x .outcome .work) p
-  after-report p x f e =
-      let g = step-full s p x f e in
-      record { here = ap (λ o. o .place) g; is = ap (λ o. o .work) g; fits = f .fits; all = f .all }
-
-  after-over : {place : ℕ} {w : List ℤ} (p : Progress) (x : Moment) → Full s 4 place w p → Steps place w x →
-      Full s 4 (x .outcome .place) (x .outcome .work) p
-  after-over p x f e =
-      let g = step-over s p x f e in
-      record { here = ap (λ o. o .place) g; is = ap (λ o. o .work) g; fits = f .fits; all = f .all }
-
-  step : {place : ℕ} {w : List ℤ} (x : Moment) → Standing place w → x .place ≡ place → Steps place w x → Then x
-  step {place} {w} x (fresh z) at e =
-      went-on (start s) x (step-begin s w x (at ∙ z) (ap (λ k. means s k w (x .cells) (x .answer)) (sym z) ∙ e))
-  step x (stage (going p o)) at e = went-on p x (step-open s p x o at e)
-  step x (stage (due p f)) at e = over p (after-report p x f e)
-  step x (stage (over p f)) at e = over p (after-over p x f e)
+  abbrev later : {k : Stage} {p : Progress} (x : Moment) → Next s k p x → Ready (x .outcome .place) (x .outcome .work)
+  later x n =
+      record {
+        k = n .later;
+        p = n .q;
+        fits = n .at .fits;
+        is = λ _. n .at .is;
+        next = λ y. step s (n .later) (n .q) y (n .at);
+        faults = λ cells a f. faults-at (n .later) (n .q) cells a f (n .at);
+      }
 
   -- the line stays on the chart
-  on-chart : {w : List ℤ} (p : Progress) → w ≡ work-of p → Bounded 15 p → (pos 0 ≤ℤ line-in w) × (line-in w ≤ℤ pos 13)
-  on-chart p e b = rw (line-is p e) (omega (arith, ints), omega (arith, ints, b .line-exists))
+  on-chart : {k : Stage} {place : ℕ} {w : List ℤ} {p : Progress} → At s k place w p → (pos 0 ≤ℤ line-in w) × (line-in w ≤ℤ pos 13)
+  on-chart {p = p} a = rw (line-is p (a .is)) (omega (arith, ints), omega (arith, ints, a .fits .line-exists))
 
-  stage-on-chart : {place : ℕ} {w : List ℤ} → Stage place w → (pos 0 ≤ℤ line-in w) × (line-in w ≤ℤ pos 13)
-  stage-on-chart (going p o) = on-chart p (o .is) (o .fits)
-  stage-on-chart (due p f) = on-chart p (f .is) (f .fits)
-  stage-on-chart (over p f) = on-chart p (f .is) (f .fits)
-
-  lines : {place : ℕ} {w : List ℤ} (xs : List Moment) → Standing place w → Run (means s) place w xs →
+  lines : {place : ℕ} {w : List ℤ} (xs : List Moment) → Ready place w → Run (means s) place w xs →
       All (λ x. (pos 0 ≤ℤ line-in (x .outcome .work)) × (line-in (x .outcome .work) ≤ℤ pos 13)) xs
-  lines [] st r = tt
-  lines (x ∷ xs) st r = let n = step x st (r .0) (r .2) in (stage-on-chart n, lines xs (stage n) (r .3))
-
-  pub line-stays : Line-stays s
-  line-stays xs r = lines xs (fresh refl) (r .1)
+  lines [] h r = tt
+  lines (x ∷ xs) h r = let n = h .next x (r .0) (r .2) in (on-chart (n .at), lines xs (later x n) (r .3))
 
   -- the reversals climb
-  climb : {place : ℕ} {w : List ℤ} (y : Moment) → Stage place w → y .place ≡ place → Steps place w y →
-      (reversals-of (y .outcome .work) ≡ reversals-of w)
-      ⊎ ((reversals-of (y .outcome .work) ≡ reversals-of w +ℤ pos 1) × (t : Tap) × (tap-at y ≡ t ∷ []))
-  climb y (due p f) at e = inl (reversals-are p (after-report p y f e .is) ∙ sym (reversals-are p (f .is)))
-  climb y (over p f) at e = inl (reversals-are p (after-over p y f e .is) ∙ sym (reversals-are p (f .is)))
-  climb {place} {w} y (going p o) at e = elim (step-open s p y o at e) [
-    | idle none quiet q ↦ inl (reversals-are p (q .is) ∙ sym (reversals-are p (o .is)))
-    | more t tap quiet q ↦ judge t tap (q .is)
-    | full t tap quiet f ↦ judge t tap (f .is)
-  ]
-    where
-      judge : (t : Tap) → tap-at y ≡ t ∷ [] → y .outcome .work ≡ work-of (judged t p) →
-          (reversals-of (y .outcome .work) ≡ reversals-of w)
-          ⊎ ((reversals-of (y .outcome .work) ≡ reversals-of w +ℤ pos 1) × (t : Tap) × (tap-at y ≡ t ∷ []))
-      judge t tap i = elim (judged-climbs t p) [
-        | inl k ↦ inl (reversals-are (judged t p) i ∙ ap pos k ∙ sym (reversals-are p (o .is)))
-        | inr k ↦ inr (reversals-are (judged t p) i ∙ ap pos k ∙ sym (ap (λ z. z +ℤ pos 1) (reversals-are p (o .is))), t, tap)
+  climb : {v w : List ℤ} (p q : Progress) (y : Moment) → v ≡ work-of p → w ≡ work-of q → Judges y p q →
+      (reversals-of w ≡ reversals-of v) ⊎ ((reversals-of w ≡ reversals-of v +ℤ pos 1) × (t : Tap) × (tap-at y ≡ t ∷ []))
+  climb p q y a b (keeps none e) = inl (reversals-are q b ∙ ap (λ x. pos (x .reversals)) e ∙ sym (reversals-are p a))
+  climb p q y a b (judges t tap e) =
+      let before = sym (reversals-are p a) in
+      let now = reversals-are q b ∙ ap (λ x. pos (x .reversals)) e in
+      elim (judged-climbs t p) [
+        | inl c ↦ inl (now ∙ ap pos c ∙ before)
+        | inr c ↦ inr (now ∙ ap pos c ∙ ap (λ z. z +ℤ pos 1) before, t, tap)
       ]
 
-  climbs : {place : ℕ} {w : List ℤ} (before after : List Moment) (x y : Moment) → Standing place w →
+  climbs : {place : ℕ} {w : List ℤ} (before after : List Moment) (x y : Moment) → Ready place w →
       Run (means s) place w (before ++ x ∷ y ∷ after) → Climbs x y
-  climbs [] after x y st r = climb y (step x st (r .0) (r .2)) (r .3 .0) (r .3 .2)
-  climbs (b ∷ bs) after x y st r = climbs bs after x y (stage (step b st (r .0) (r .2))) (r .3)
+  climbs [] after x y h r =
+      let n = h .next x (r .0) (r .2) in
+      let m = step s (n .later) (n .q) y (n .at) (r .3 .0) (r .3 .2) in
+      climb (n .q) (m .q) y (n .at .is) (m .at .is) (m .tap)
+  climbs (b ∷ bs) after x y h r = climbs bs after x y (later b (h .next b (r .0) (r .2))) (r .3)
 
-  pub reversals-climb : Reversals-climb s
-  reversals-climb before after x y r = climbs before after x y (fresh refl) (r .1)
+  -- The result comes in time: whether it is due after some moments, from a stage on.
+  abbrev now-due : Stage → List Moment → Bool
+  now-due going xs = just-reached s xs
+  now-due due [] = true
+  now-due due (x ∷ xs) = false
+  now-due over xs = false
 
-  -- the result comes in time
-  not-reached : (p : Progress) (x : Moment) → Open s (x .outcome .place) (x .outcome .work) p → reached s x ≡ false
-  not-reached p x o = rw (reversals-are p (o .is)) (lt-leb _ _ (o .less))
+  now-due-none : (k : Stage) → is-due k ≡ now-due k []
+  now-due-none going = refl
+  now-due-none due = refl
+  now-due-none over = refl
 
-  is-reached : (p : Progress) (x : Moment) → Full s 3 (x .outcome .place) (x .outcome .work) p → reached s x ≡ true
-  is-reached p x f = rw (reversals-are p (f .is)) (le-leb _ _ (omega (arith, f .all)))
+  now-due-more : (k l : Stage) (p : Progress) (x : Moment) (xs : List Moment) → Leads k l →
+      At s l (x .outcome .place) (x .outcome .work) p → now-due l xs ≡ now-due k (x ∷ xs)
+  now-due-more due over p x xs leads a = refl
+  now-due-more over over p x xs leads a = refl
+  now-due-more going going p x xs leads a = go xs
+    where
+      no : reached s x ≡ false
+      no = rw (reversals-are p (a .is)) (lt-leb _ _ (a .count))
 
-  quiet-now : (p : Progress) (x : Moment) → Went s p x → emits x ≡ false
-  quiet-now p x (idle none quiet o) = quiet
-  quiet-now p x (more t tap quiet o) = quiet
-  quiet-now p x (full t tap quiet f) = quiet
+      go : (xs : List Moment) → just-reached s xs ≡ just-reached s (x ∷ xs)
+      go [] = sym no
+      go (y ∷ ys) = simp no
+  now-due-more going due p x xs leads a = go xs
+    where
+      yes : reached s x ≡ true
+      yes = rw (reversals-are p (a .is)) (le-leb _ _ (omega (arith, a .count)))
 
-  quiet-over : {place : ℕ} {w : List ℤ} (p : Progress) (before after : List Moment) (x : Moment) → Full s 4 place w p →
-      Run (means s) place w (before ++ x ∷ after) → emits x ≡ false
-  quiet-over p [] after x f r = ap (λ o. is-emit (o .request)) (step-over s p x f (r .2))
-  quiet-over p (b ∷ bs) after x f r = quiet-over p bs after x (after-over p b f (r .2)) (r .3)
+      go : (xs : List Moment) → now-due due xs ≡ just-reached s (x ∷ xs)
+      go [] = sym yes
+      go (y ∷ ys) = simp yes
+  now-due-more going over p x xs leads a = absurd leads
+  now-due-more due going p x xs leads a = absurd leads
+  now-due-more due due p x xs leads a = absurd leads
+  now-due-more over going p x xs leads a = absurd leads
+  now-due-more over due p x xs leads a = absurd leads
 
-  in-time : (p : Progress) (b : Moment) (bs after : List Moment) (x : Moment) → Went s p b →
-      Run (means s) (b .outcome .place) (b .outcome .work) (bs ++ x ∷ after) → emits x ≡ just-reached s (b ∷ bs)
-  in-time p b [] after x (idle none quiet o) r =
-      quiet-now p x (step-open s p x o (r .0) (r .2)) ∙ sym (not-reached p b o)
-  in-time p b [] after x (more t tap quiet o) r =
-      quiet-now (judged t p) x (step-open s (judged t p) x o (r .0) (r .2)) ∙ sym (not-reached (judged t p) b o)
-  in-time p b [] after x (full t tap quiet f) r =
-      ap (λ o. is-emit (o .request)) (step-full s (judged t p) x f (r .2)) ∙ sym (is-reached (judged t p) b f)
-  in-time p b (c ∷ cs) after x (idle none quiet o) r =
-      let n = not-reached p b o in simp n (in-time p c cs after x (step-open s p c o (r .0) (r .2)) (r .3))
-  in-time p b (c ∷ cs) after x (more t tap quiet o) r =
-      let n = not-reached (judged t p) b o in
-      simp n (in-time (judged t p) c cs after x (step-open s (judged t p) c o (r .0) (r .2)) (r .3))
-  in-time p b (c ∷ cs) after x (full t tap quiet f) r =
-      let n = is-reached (judged t p) b f in
-      simp n (quiet-over (judged t p) cs after x (after-report (judged t p) c f (r .2)) (r .3))
-
-  pub result-in-time : Result-in-time s
-  result-in-time [] after x (w, r) = quiet-now (start s) x (step-begin s w x (r .0) (r .2))
-  result-in-time (b ∷ bs) after x (w, r) = in-time (start s) b bs after x (step-begin s w b (r .0) (r .2)) (r .3)
+  in-time : {place : ℕ} {w : List ℤ} (before after : List Moment) (x : Moment) (h : Ready place w) →
+      Run (means s) place w (before ++ x ∷ after) → emits x ≡ now-due (h .k) before
+  in-time [] after x h r = h .next x (r .0) (r .2) .emitting ∙ now-due-none (h .k)
+  in-time (b ∷ bs) after x h r =
+      let n = h .next b (r .0) (r .2) in
+      in-time bs after x (later b n) (r .3) ∙ now-due-more (h .k) (n .later) (n .q) b bs (n .leads) (n .at)
 
   -- the result is the last line
+  stops : (k : Stage) {place : ℕ} {w : List ℤ} (p : Progress) (xs : List Moment) → Is-over k → At s k place w p → Run (means s) place w xs →
+      All (λ y. (y .outcome .write ≡ None) × (y .outcome .request ≡ Stop)) xs
+  stops k p [] l a r = tt
+  stops going p (x ∷ xs) l a r = absurd l
+  stops due p (x ∷ xs) l a r = absurd l
+  stops over p (x ∷ xs) l a r =
+      let n = step s over p x a (r .0) (r .2) in
+      ((ap (λ o. o .write) (n .ends), ap (λ o. o .request) (n .ends)), stops (n .later) (n .q) xs (n .leads) (n .at) (r .3))
+
   Is-result : List Moment → Moment → ℤ → Type 0
   Is-result after x v =
       (v ≡ line-in (x .work)) × (x .outcome .write ≡ Some (record { cell = s .«result_cell»; value = v }))
       × All (λ y. (y .outcome .write ≡ None) × (y .outcome .request ≡ Stop)) after
 
-  only-stops : {place : ℕ} {w : List ℤ} (p : Progress) (xs : List Moment) → Full s 4 place w p → Run (means s) place w xs →
-      All (λ y. (y .outcome .write ≡ None) × (y .outcome .request ≡ Stop)) xs
-  only-stops p [] f r = tt
-  only-stops p (x ∷ xs) f r =
-      let g = step-over s p x f (r .2) in
-      ((ap (λ o. o .write) g, ap (λ o. o .request) g), only-stops p xs (after-over p x f (r .2)) (r .3))
-
-  no-result : (x : Moment) (v : ℤ) (C : Type 0) → emits x ≡ false → x .outcome .request ≡ Emit v → C
-  no-result x v C quiet e = let z = sym quiet ∙ ap is-emit e in absurd (grind arith)
-
-  result : {place : ℕ} {w : List ℤ} (before after : List Moment) (x : Moment) (v : ℤ) → Standing place w →
-      Run (means s) place w (before ++ x ∷ after) → x .outcome .request ≡ Emit v → Is-result after x v
+  result-here : (k : Stage) (p : Progress) (x : Moment) (v : ℤ) (after : List Moment) → is-due k ≡ true → x .work ≡ work-of p →
+      Next s k p x → Run (means s) (x .outcome .place) (x .outcome .work) after → x .outcome .request ≡ Emit v → Is-result after x v
   unfolding Is-result
-  result (b ∷ bs) after x v st r e = result bs after x v (stage (step b st (r .0) (r .2))) (r .3) e
-  result {place} {w} [] after x v (fresh z) r e =
-      no-result x v _ (quiet-now (start s) x (step-begin s w x (r .0 ∙ z) (ap (λ k. means s k w (x .cells) (x .answer)) (sym z) ∙ r .2))) e
-  result [] after x v (stage (going p o)) r e = no-result x v _ (quiet-now p x (step-open s p x o (r .0) (r .2))) e
-  result [] after x v (stage (over p f)) r e = no-result x v _ (ap (λ o. is-emit (o .request)) (step-over s p x f (r .2))) e
-  result [] after x v (stage (due p f)) r e =
-      let g = step-full s p x f (r .2) in
-      let h = ap (λ o. o .request) g in
-      let i : v ≡ pos (p .line) = cc in (
-        i ∙ sym (line-is p (r .1 ∙ f .is)),
-        ap (λ o. o .write) g ∙ ap (λ n. Some (record { cell = s .«result_cell»; value = n })) (sym i),
-        only-stops p after (after-report p x f (r .2)) (r .3),
+  result-here going p x v after d i n r e = absurd (false≢true d)
+  result-here over p x v after d i n r e = absurd (false≢true d)
+  result-here due p x v after d i n r e =
+      let f = ap (λ o. o .request) (n .ends) in
+      let same : v ≡ pos (p .line) = cc in (
+        same ∙ sym (line-is p i),
+        ap (λ o. o .write) (n .ends) ∙ ap (λ z. Some (record { cell = s .«result_cell»; value = z })) (sym same),
+        stops (n .later) (n .q) after (n .leads) (n .at) r,
       )
 
-  pub result-is-last-line : Result-is-last-line s
-  unfolding Is-result
-  result-is-last-line before after x v r e = result before after x v (fresh refl) (r .1) e
+  result : {place : ℕ} {w : List ℤ} (before after : List Moment) (x : Moment) (v : ℤ) → Ready place w →
+      Run (means s) place w (before ++ x ∷ after) → x .outcome .request ≡ Emit v → Is-result after x v
+  result [] after x v h r e =
+      let n = h .next x (r .0) (r .2) in
+      let d = sym (n .emitting) ∙ ap is-emit e in
+      result-here (h .k) (h .p) x v after d (r .1 ∙ h .is d) n (r .3) e
+  result (b ∷ bs) after x v h r e = result bs after x v (later b (h .next b (r .0) (r .2))) (r .3) e
 
   -- line and reversals are what the taps come to
-  no-tap-at : (x : Moment) (place : ℕ) → x .place ≡ place → 2 < place → tap-at x ≡ []
-  no-tap-at x place e h = let n : eqb (x .place) 2 ≡ false = ne-eqb _ _ (λ z. omega arith) in simp n
-
-  -- numbers that some taps make of a progress
   record Comes-to (p : Progress) (taps : List Tap) (v : List ℤ) : Type 0 where
     line-comes : line-in v ≡ pos (line-then p taps)
     reversals-come : reversals-of v ≡ pos (reversals-then p taps)
@@ -214,79 +212,36 @@ module _ (s : Staircase) where
       let n = then-none p (p .run) refl (b .short-run) in
       record { line-comes = line-is p e ∙ ap pos (sym (n .0)); reversals-come = reversals-are p e ∙ ap pos (sym (n .1)) }
 
-  comes-idle : (p : Progress) (x : Moment) (taps : List Tap) (v : List ℤ) → tap-at x ≡ [] → Comes-to p taps v → Comes-to p (tap-at x ++ taps) v
-  comes-idle p x taps v none c = rw none c
-
-  comes-tap : (p : Progress) (t : Tap) (x : Moment) (taps : List Tap) (v : List ℤ) → Bounded 15 p → tap-at x ≡ t ∷ [] →
-      Comes-to (judged t p) taps v → Comes-to p (tap-at x ++ taps) v
-  comes-tap p t x taps v b tap c =
+  comes-more : (p q : Progress) (x : Moment) (taps : List Tap) (v : List ℤ) → Bounded 15 p → Judges x p q → Comes-to q taps v →
+      Comes-to p (tap-at x ++ taps) v
+  comes-more p q x taps v b (keeps none e) c = rw (none, sym e) c
+  comes-more p q x taps v b (judges t tap e) c =
+      let d : Comes-to (judged t p) taps v = rw (sym e) c in
       let n = then-more t p (p .run) taps refl (b .short-run) in
-      rw tap (record { line-comes = c .line-comes ∙ ap pos (n .0); reversals-come = c .reversals-come ∙ ap pos (n .1) })
+      rw tap (record { line-comes = d .line-comes ∙ ap pos (n .0); reversals-come = d .reversals-come ∙ ap pos (n .1) })
 
-  over-comes : {place : ℕ} {w : List ℤ} (p : Progress) (xs : List Moment) → Full s 4 place w p → Run (means s) place w xs →
-      Comes-to p (taps-in xs) (work-after w xs)
-  over-comes p [] f r = comes-none p (f .is) (f .fits)
-  over-comes p (x ∷ xs) f r =
-      comes-idle p x _ _ (no-tap-at x 4 (r .0 ∙ f .here) (omega arith)) (over-comes p xs (after-over p x f (r .2)) (r .3))
+  comes : (k : Stage) (p : Progress) (x : Moment) (xs : List Moment) → Bounded 15 p → Next s k p x →
+      Run (means s) (x .outcome .place) (x .outcome .work) xs → Comes-to p (taps-in (x ∷ xs)) (work-after (x .outcome .work) xs)
+  comes k p x [] b n r = comes-more p (n .q) x _ _ b (n .tap) (comes-none (n .q) (n .at .is) (n .at .fits))
+  comes k p x (y ∷ ys) b n r =
+      comes-more p (n .q) x _ _ b (n .tap)
+      (comes (n .later) (n .q) y ys (n .at .fits) (step s (n .later) (n .q) y (n .at) (r .0) (r .2)) (r .3))
 
-  due-comes : {place : ℕ} {w : List ℤ} (p : Progress) (xs : List Moment) → Full s 3 place w p → Run (means s) place w xs →
-      Comes-to p (taps-in xs) (work-after w xs)
-  due-comes p [] f r = comes-none p (f .is) (f .fits)
-  due-comes p (x ∷ xs) f r =
-      comes-idle p x _ _ (no-tap-at x 3 (r .0 ∙ f .here) (omega arith)) (over-comes p xs (after-report p x f (r .2)) (r .3))
-
-  -- from the moment on that is known
-  comes : (p : Progress) (x : Moment) (xs : List Moment) → Bounded 15 p → Went s p x → Run (means s) (x .outcome .place) (x .outcome .work) xs →
-      Comes-to p (taps-in (x ∷ xs)) (work-after (x .outcome .work) xs)
-  comes p x xs b (full t tap quiet f) r = comes-tap p t x _ _ b tap (due-comes (judged t p) xs f r)
-  comes p x [] b (idle none quiet o) r = comes-idle p x _ _ none (comes-none p (o .is) (o .fits))
-  comes p x [] b (more t tap quiet o) r = comes-tap p t x _ _ b tap (comes-none (judged t p) (o .is) (o .fits))
-  comes p x (y ∷ ys) b (idle none quiet o) r =
-      comes-idle p x _ _ none (comes p y ys (o .fits) (step-open s p y o (r .0) (r .2)) (r .3))
-  comes p x (y ∷ ys) b (more t tap quiet o) r =
-      comes-tap p t x _ _ b tap (comes (judged t p) y ys (o .fits) (step-open s (judged t p) y o (r .0) (r .2)) (r .3))
-
-  pub taps-decide : Taps-decide s
-  taps-decide w x xs r =
-      let c = comes (start s) x xs (start-bounded s) (step-begin s w x (r .0) (r .2)) (r .3) in
-      (c .line-comes, c .reversals-come ∙ ap pos (zero-add _))
-
-  -- only a message that is no tap is a fault
-  judge-faults : (p : Progress) (a : Answer) (f : Fault) → does s (work-of p) (Judge p) a ≡ Err f → (v : ℤ) × (a ≡ Got v) × (tap-in v ≡ Err f)
-  judge-faults p Done f e = absurd (grind arith)
-  judge-faults p (Fork g) f e = absurd (grind arith)
-  judge-faults p (Got v) f e = go (tap-in v) refl
-    where
-      go : (r : Result Tap Fault) → tap-in v ≡ r → (x : ℤ) × (Got v ≡ Got x) × (tap-in x ≡ Err f)
-      go (Ok t) i = let z = simp i at e in absurd (grind arith)
-      go (Err g) i = let z = simp i at e in let same : g ≡ f = cc in (v, refl, i ∙ ap Err same)
-
-  faults : {place : ℕ} {w : List ℤ} (cells : List ℤ) (a : Answer) (f : Fault) → Standing place w → means s place w cells a ≡ Err f →
-      (v : ℤ) × (a ≡ Got v) × (tap-in v ≡ Err f)
-  faults {place} {w} cells a f (fresh z) e = let g = stands s {v = w} cells a z refl e in absurd (grind arith)
-  faults cells a f (stage (due p d)) e =
-      let g = sym (at-report s p cells a (d .fits)) ∙ stands s cells a (d .here) (d .is) e in absurd (grind arith)
-  faults cells a f (stage (over p d)) e = let g = stands s cells a (d .here) (d .is) e in absurd (grind arith)
-  faults cells a f (stage (going p o)) e = elim (o .here) [
-    | inl h ↦ let g = sym (at-show s p cells a (o .fits)) ∙ stands s cells a h (o .is) e in absurd (grind arith)
-    | inr h ↦ judge-faults p a f (sym (at-judge s p cells a (o .fits)) ∙ stands s cells a h (o .is) e)
-  ]
-
-  faults-after : {place : ℕ} {w : List ℤ} (xs : List Moment) (cells : List ℤ) (a : Answer) (f : Fault) → Standing place w → Run (means s) place w xs →
-      means s (place-after place xs) (work-after w xs) cells a ≡ Err f → (v : ℤ) × (a ≡ Got v) × (tap-in v ≡ Err f)
-  faults-after [] cells a f st r e = faults cells a f st e
-  faults-after (x ∷ xs) cells a f st r e = faults-after xs cells a f (stage (step x st (r .0) (r .2))) (r .3) e
-
-  pub faults-by-message : Faults-by-message s
-  faults-by-message w xs cells a f r e = faults-after xs cells a f (fresh refl) r e
+  faults-after : {place : ℕ} {w : List ℤ} (xs : List Moment) (cells : List ℤ) (a : Answer) (f : Fault) → Ready place w →
+      Run (means s) place w xs → means s (place-after place xs) (work-after w xs) cells a ≡ Err f → By-message a f
+  faults-after [] cells a f h r e = h .faults cells a f e
+  faults-after (x ∷ xs) cells a f h r e = faults-after xs cells a f (later x (h .next x (r .0) (r .2))) (r .3) e
 
   pub lawful : Lawful s
+  unfolding By-message Is-result
   lawful =
       record {
-        line-stays = line-stays;
-        reversals-climb = reversals-climb;
-        result-in-time = result-in-time;
-        result-is-last-line = result-is-last-line;
-        taps-decide = taps-decide;
-        faults-by-message = faults-by-message;
+        line-stays = λ xs r. lines xs (fresh (r .0)) (r .1);
+        reversals-climb = λ before after x y r. climbs before after x y (fresh (r .0)) (r .1);
+        result-in-time = λ before after x r. in-time before after x (fresh (r .0)) (r .1);
+        result-is-last-line = λ before after x v r e. result before after x v (fresh (r .0)) (r .1) e;
+        taps-decide = λ w x xs r.
+            let c = comes going (start s) x xs (start-bounded s) (first s w x (r .0) (r .2)) (r .3) in
+            (c .line-comes, c .reversals-come ∙ ap pos (zero-add _));
+        faults-by-message = λ w xs cells a f r e. faults-after xs cells a f (fresh w) r e;
       }

@@ -1,3 +1,3 @@
-pub mod Folds
+pub mod Judging
 pub mod Stages
 pub mod Lawful

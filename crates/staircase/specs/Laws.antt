@@ -1,5 +1,5 @@
 -- The laws of a staircase, over every run of a thread that starts at place 0, whatever cells and answers it is handed.
-use Prim.Native.Nat.{ℕ, _+_}
+use Prim.Native.Nat.{_+_}
 use mathlib.Core.Path.{_≡_}
 use mathlib.Core.Logic.{_⊎_}
 use mathlib.Core.List.{List, [], _∷_, _++_}
@@ -36,13 +36,13 @@ abbrev pub tapped : Result Tap Fault → List Tap
 tapped (Ok tap) = tap ∷ []
 tapped (Err f) = []
 
-abbrev pub heard : Answer → List Tap
-heard Done = []
-heard (Got v) = tapped (tap-in v)
-heard (Fork f) = []
+abbrev pub tap-handed : Answer → List Tap
+tap-handed Done = []
+tap-handed (Got v) = tapped (tap-in v)
+tap-handed (Fork f) = []
 
 abbrev pub tap-at : Moment → List Tap
-tap-at x = cond (eqb (x .place) 2) (heard (x .answer)) []
+tap-at x = cond (eqb (x .place) 2) (tap-handed (x .answer)) []
 
 abbrev pub taps-in : List Moment → List Tap
 taps-in [] = []

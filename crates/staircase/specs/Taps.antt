@@ -1,6 +1,6 @@
 -- Taps, and the messages that stand for them.
 use lib.IntN.{ℤ, pos, negsuc}
-use Prim.Native.Nat.{ℕ, zero, suc}
+use Prim.Native.Nat.{zero, suc}
 use Rattle.std.specs.declared.result.Result.{Result}
 use Rattle.std.specs.declared.result.Result.the-variants.{Ok, Err}
 use Rattle.model.specs.declared.faults.Fault.{Fault}

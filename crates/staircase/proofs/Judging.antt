@@ -1,22 +1,77 @@
--- What a progress becomes by taps, one by one and all at once. Assumes nothing.
+-- What a tap does to a progress, and what many taps do, one by one and all at once. Assumes nothing.
 use Prim.Native.Nat.{ℕ, zero, suc, _+_, _≤_}
-use mathlib.Core.Path.{_≡_, refl, sym, ap, _∙_}
+use mathlib.Core.Path.{_≡_, refl, sym, _∙_}
 use mathlib.Core.Logic.{_⊎_, inl, inr}
 use mathlib.Core.List.{List, [], _∷_, _++_}
 use native.Mathlib.Omega.{arith}
 use native.Mathlib.Nat.{add-assoc, add-zero, zero-add}
 use lib.Dec.{eqb}
-use Rattle.std.proofs.shelf.Tests.{cases-bool}
+use Rattle.std.proofs.shelf.Tests.{le-leb, cases-bool}
 use Rattle.std.proofs.shelf.Ways.{tells}
-use Rattle.std.specs.declared.option.Option.the-variants.{None}
+use Rattle.std.specs.declared.option.Option.{Option}
+use Rattle.std.specs.declared.option.Option.the-variants.{Some, None}
+use Rattle.std.specs.declared.result.Result.the-variants.{Ok}
+use Rattle.staircase.specs.declared.progress.Direction.{Direction}
+use Rattle.staircase.specs.declared.progress.Direction.the-variants.{ToSmaller, ToLarger}
 use Rattle.staircase.specs.declared.progress.Progress.{Progress}
 use Rattle.staircase.specs.declared.taps.Tap.{Tap}
 use Rattle.staircase.specs.declared.taps.Tap.the-variants.{Seen, NotSeen}
-use Rattle.staircase.specs.Progress.{progress, judged}
+use Rattle.staircase.specs.Progress.{Bounded, progress, progress-in, work-of, last-number, last-move-in, judged, reversal}
 use Rattle.staircase.specs.Moves.{moves, line-after, reversals-from, reversals-in}
 
+last-back : (d : Option Direction) → last-move-in (last-number d) ≡ Ok d
+last-back None = refl
+last-back (Some ToSmaller) = refl
+last-back (Some ToLarger) = refl
+
+-- work numbers give their progress back
+pub progress-back : (p : Progress) → Bounded 15 p → progress-in (work-of p) ≡ Ok p
+progress-back p b =
+    let l = le-leb _ _ (b .line-exists) in
+    let r = le-leb _ _ (b .short-run) in
+    let v = le-leb _ _ (b .few) in
+    let d = last-back (p .«last_move») in
+    simp (l, r, v, d)
+
+judged-line : (t : Tap) (p : Progress) → p .line ≤ 13 → judged t p .line ≤ 13
+judged-line NotSeen p h = omega arith
+judged-line Seen p h = grind (arith, tells)
+
+judged-run : (t : Tap) (p : Progress) → p .run ≤ 1 → judged t p .run ≤ 1
+judged-run NotSeen p h = omega arith
+judged-run Seen p h = grind (arith, tells)
+
+one-more : (n r : ℕ) → r ≤ 1 → (n + r ≡ n) ⊎ (n + r ≡ n + 1)
+one-more n zero h = inl (omega arith)
+one-more n (suc zero) h = inr refl
+one-more n (suc (suc r)) h = absurd (omega arith)
+
+reversal-once : (l : Option Direction) (d : Direction) → reversal l d ≤ 1
+reversal-once None d = omega arith
+reversal-once (Some ToSmaller) ToSmaller = omega arith
+reversal-once (Some ToSmaller) ToLarger = omega arith
+reversal-once (Some ToLarger) ToSmaller = omega arith
+reversal-once (Some ToLarger) ToLarger = omega arith
+
+-- a tap adds one reversal at most
+pub judged-climbs : (t : Tap) (p : Progress) → (judged t p .reversals ≡ p .reversals) ⊎ (judged t p .reversals ≡ p .reversals + 1)
+judged-climbs NotSeen p = one-more (p .reversals) _ (reversal-once (p .«last_move») ToLarger)
+judged-climbs Seen p = elim (cases-bool (eqb (p .run + 1) 2)) [
+  | inl e ↦ simp e (one-more (p .reversals) _ (reversal-once (p .«last_move») ToSmaller))
+  | inr e ↦ simp e (inl refl)
+]
+
+-- a tap keeps the ranges
+pub judged-bounded : (t : Tap) (m : ℕ) (p : Progress) → Bounded m p → Bounded (m + 1) (judged t p)
+judged-bounded t m p b =
+    record {
+      line-exists = judged-line t p (b .line-exists);
+      short-run = judged-run t p (b .short-run);
+      few = elim (judged-climbs t p) [ inl e ↦ omega (arith, b .few) | inr e ↦ omega (arith, b .few) ];
+    }
+
 -- The taps that are still to come, after some progress: a line seen once waits for its second time.
-abbrev pub pending : ℕ → List Tap
+abbrev pending : ℕ → List Tap
 pending zero = []
 pending (suc n) = Seen ∷ pending n
 
@@ -47,10 +102,6 @@ after p (t ∷ taps) = after (judged t p) taps
 pub after-more : (p : Progress) (taps : List Tap) (t : Tap) → after p (taps ++ t ∷ []) ≡ judged t (after p taps)
 after-more p [] t = refl
 after-more p (x ∷ taps) t = after-more (judged x p) taps t
-
-judged-run : (t : Tap) (p : Progress) → p .run ≤ 1 → judged t p .run ≤ 1
-judged-run NotSeen p h = omega arith
-judged-run Seen p h = grind (arith, tells)
 
 after-then : (p : Progress) (taps : List Tap) → p .run ≤ 1 →
     (after p taps .line ≡ line-then p taps) × (after p taps .reversals ≡ reversals-then p taps)
