@@ -7,7 +7,7 @@ use mathlib.Core.Bool.{Bool, true, false}
 use native.Mathlib.Omega.{arith}
 use native.Mathlib.Nat.{zero-add}
 use lib.IntN.{ℤ, pos, _+ℤ_}
-use lib.Signed.{_≤ℤ_}
+use lib.Signed.{_≤ℤ_, _<ℤ_}
 use Rattle.std.proofs.shelf.Signed.{ints}
 use Rattle.std.proofs.shelf.Tests.{le-leb, lt-leb, false≢true}
 use Rattle.std.specs.shelf.Lists.{All}
@@ -37,25 +37,29 @@ reversals-are : {w : List ℤ} (p : Progress) → w ≡ work-of p → reversals-
 reversals-are p e = ap reversals-of e
 
 module _ (s : Staircase) where
-  -- only a message that is no tap is a fault
-  By-message : Answer → Fault → Type 0
-  By-message a f = (v : ℤ) × (a ≡ Got v) × (tap-in v ≡ Err f)
+  -- only a message that is no tap is a fault, and only while taps are wanted
+  By-message : List ℤ → Answer → Fault → Type 0
+  By-message w a f = (v : ℤ) × (a ≡ Got v) × (tap-in v ≡ Err f) × (reversals-of w <ℤ pos (s .«wanted_reversals»))
 
-  judge-faults : (p : Progress) (a : Answer) (f : Fault) → does s (work-of p) (Judge p) a ≡ Err f → By-message a f
+  judge-faults : (w : List ℤ) (p : Progress) (a : Answer) (f : Fault) → reversals-of w <ℤ pos (s .«wanted_reversals») →
+      does s (work-of p) (Judge p) a ≡ Err f → By-message w a f
   unfolding By-message
-  judge-faults p Done f e = absurd (grind arith)
-  judge-faults p (Fork g) f e = absurd (grind arith)
-  judge-faults p (Got v) f e = go (tap-in v) refl
+  judge-faults w p Done f l e = absurd (grind arith)
+  judge-faults w p (Fork g) f l e = absurd (grind arith)
+  judge-faults w p (Got v) f l e = go (tap-in v) refl
     where
-      go : (r : Result Tap Fault) → tap-in v ≡ r → (x : ℤ) × (Got v ≡ Got x) × (tap-in x ≡ Err f)
+      go : (r : Result Tap Fault) → tap-in v ≡ r →
+          (x : ℤ) × (Got v ≡ Got x) × (tap-in x ≡ Err f) × (reversals-of w <ℤ pos (s .«wanted_reversals»))
       go (Ok t) i = let z = simp i at e in absurd (grind arith)
-      go (Err g) i = let z = simp i at e in let same : g ≡ f = cc in (v, refl, i ∙ ap Err same)
+      go (Err g) i = let z = simp i at e in let same : g ≡ f = cc in (v, refl, i ∙ ap Err same, l)
 
   faults-at : (k : Stage) {place : ℕ} {w : List ℤ} (p : Progress) (cells : List ℤ) (a : Answer) (f : Fault) → At s k place w p →
-      means s place w cells a ≡ Err f → By-message a f
-  faults-at going p cells a f t e = elim (t .here) [
+      means s place w cells a ≡ Err f → By-message w a f
+  faults-at going {place} {w} p cells a f t e = elim (t .here) [
     | inl h ↦ let g = sym (at-show s p cells a (t .fits)) ∙ stands s cells a h (t .is) e in absurd (grind arith)
-    | inr h ↦ judge-faults p a f (sym (at-judge s p cells a (t .fits)) ∙ stands s cells a h (t .is) e)
+    | inr h ↦
+        judge-faults w p a f (rw (reversals-are p (t .is)) (omega (arith, ints, t .count)))
+        (sym (at-judge s p cells a (t .fits)) ∙ stands s cells a h (t .is) e)
   ]
   faults-at due p cells a f t e =
       let g = sym (at-report s p cells a (t .fits)) ∙ stands s cells a (t .here) (t .is) e in absurd (grind arith)
@@ -68,7 +72,7 @@ module _ (s : Staircase) where
     fits : Bounded 15 p
     is : is-due k ≡ true → w ≡ work-of p
     next : (x : Moment) → x .place ≡ place → means s place w (x .cells) (x .answer) ≡ Ok (x .outcome) → Next s k p x
-    faults : (cells : List ℤ) (a : Answer) (f : Fault) → means s place w cells a ≡ Err f → By-message a f
+    faults : (cells : List ℤ) (a : Answer) (f : Fault) → means s place w cells a ≡ Err f → By-message w a f
 
   abbrev fresh : (w : List ℤ) → Ready 0 w
   fresh w =
@@ -228,7 +232,7 @@ module _ (s : Staircase) where
       (comes (n .later) (n .q) y ys (n .at .fits) (step s (n .later) (n .q) y (n .at) (r .0) (r .2)) (r .3))
 
   faults-after : {place : ℕ} {w : List ℤ} (xs : List Moment) (cells : List ℤ) (a : Answer) (f : Fault) → Ready place w →
-      Run (means s) place w xs → means s (place-after place xs) (work-after w xs) cells a ≡ Err f → By-message a f
+      Run (means s) place w xs → means s (place-after place xs) (work-after w xs) cells a ≡ Err f → By-message (work-after w xs) a f
   faults-after [] cells a f h r e = h .faults cells a f e
   faults-after (x ∷ xs) cells a f h r e = faults-after xs cells a f (later x (h .next x (r .0) (r .2))) (r .3) e
 

@@ -7,7 +7,7 @@ use mathlib.Core.Bool.{Bool, true, false, not, cond, _&&_}
 use lib.Dec.{eqb}
 use lib.IntN.{ℤ, pos, _+ℤ_}
 use lib.ListN.{getD}
-use lib.Signed.{_≤ℤ_, leZ}
+use lib.Signed.{_≤ℤ_, _<ℤ_, leZ}
 use Rattle.std.specs.shelf.Lists.{All}
 use Rattle.std.specs.declared.option.Option.the-variants.{Some, None}
 use Rattle.std.specs.declared.result.Result.{Result}
@@ -107,10 +107,11 @@ module _ (s : Staircase) where
       (line-in (work-after w (x ∷ xs)) ≡ pos (line-after (s .«start_line») (moves (taps-in (x ∷ xs)))))
       × (reversals-of (work-after w (x ∷ xs)) ≡ pos (reversals-in (moves (taps-in (x ∷ xs)))))
 
-  -- nothing but a message that is no tap makes the thread fault
+  -- nothing makes the thread fault but a message that is no tap, and that only until the wanted reversals are reached
   abbrev pub Faults-by-message : Type 0
   Faults-by-message = (w : List ℤ) (xs : List Moment) (cells : List ℤ) (a : Answer) (f : Fault) → Run (means s) 0 w xs →
-      means s (place-after 0 xs) (work-after w xs) cells a ≡ Err f → (v : ℤ) × (a ≡ Got v) × (tap-in v ≡ Err f)
+      means s (place-after 0 xs) (work-after w xs) cells a ≡ Err f →
+      (v : ℤ) × (a ≡ Got v) × (tap-in v ≡ Err f) × (reversals-of (work-after w xs) <ℤ pos (s .«wanted_reversals»))
 
   pub record Lawful : Type 0 where
     pub line-stays : Line-stays
