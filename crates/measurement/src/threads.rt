@@ -58,9 +58,12 @@ impl Thread {
             work: [0; 4],
             cells: [0; CELLS],
         };
-        // Neither step can fault: the first sets the numbers, and the second shows the start line.
-        let _ = thread.step(staircase, Answer::Done);
-        let _ = thread.step(staircase, Answer::Done);
+        let Ok(_) = thread.step(staircase, Answer::Done) else {
+            unreachable()
+        };
+        let Ok(_) = thread.step(staircase, Answer::Done) else {
+            unreachable()
+        };
         thread
     }
 
