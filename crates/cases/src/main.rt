@@ -1,4 +1,5 @@
 //! The worked cases of the staircase, run.
+#![tactic(auto)]
 
 use measurement::running::{measure, prepare};
 use measurement::settings::Settings;

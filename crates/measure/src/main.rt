@@ -1,4 +1,5 @@
 //! A sight measurement: start line, wanted reversals and label as arguments, taps on standard input.
+#![tactic(auto)]
 
 use anyhow::anyhow;
 use measurement::complaints::Complaint;
@@ -9,6 +10,7 @@ use measurement::taps::add_tap;
 use staircase::taps::Tap;
 use std::env;
 use std::io::{BufRead, BufReader, Write};
+use std::process::ExitCode;
 
 fn read_settings(rt: &HostRuntime) -> anyhow::Result<Settings> {
     let Ok(arguments) = env::args(rt) else {
@@ -57,14 +59,17 @@ fn run(rt: &HostRuntime) -> anyhow::Result<()> {
     let settings = read_settings(rt)?;
     let staircase = prepare(settings)?;
     let taps = read_taps(rt)?;
-    let report = measure(rt.alloc(), &staircase, settings.label, taps.as_slice())?;
+    let measured = measure(rt.alloc(), &staircase, settings.label, taps.as_slice());
+    let report = measured.map_err(|_| Complaint::Memory)?;
     print_report(rt, &report)
 }
 
-fn main(rt: HostRuntime) -> anyhow::Result<()> {
-    let outcome = run(&rt);
-    if let Err(error) = &outcome {
-        eprintln!(rt; "measure: {error}")?;
+fn main(rt: HostRuntime) -> ExitCode {
+    match run(&rt) {
+        Ok(()) => ExitCode::SUCCESS,
+        Err(error) => {
+            let _ = eprintln!(rt; "measure: {error}");
+            ExitCode::FAILURE
+        }
     }
-    outcome
 }

@@ -1,8 +1,8 @@
 -- The laws of a staircase's runs. Assumes nothing.
-use Rattle.std.proofs.Common.{◌≡◌, ℕ, ◌≤◌, Bool, true, false, ◌⊎◌, List, [], ◌∷◌, ◌++◌, ℤ, pos, ◌+ℤ◌, ◌≤ℤ◌, ◌<ℤ◌, Some, None, Ok, Err, Result, sym, refl, ap, ◌∙◌, inl, inr, zero-add, arith}
+use Rattle.std.proofs.Common.{◌≡◌, ℕ, Bool, true, false, ◌⊎◌, List, [], ◌∷◌, ◌++◌, ℤ, pos, ◌+ℤ◌, ◌≤ℤ◌, ◌<ℤ◌, Some, None, Ok, Err, Result, sym, refl, ap, ◌∙◌, inl, inr, zero-add, arith}
 use Rattle.std.proofs.lemmas.Int.{ints}
 use Rattle.std.proofs.lemmas.Bool.{le-leb, lt-leb, false≢true}
-use Rattle.std.specs.List.{AllByRecursion as All}
+use Rattle.std.specs.List.{AllByRecursion}
 use Rattle.model.specs.declared.faults.Fault.{Fault}
 use Rattle.model.specs.declared.threads.Answer.{Answer}
 use Rattle.model.specs.declared.threads.Answer.TheVariants.{Done, Got, Fork}
@@ -90,7 +90,7 @@ module _ (s : Staircase) where
   on_chart {p = p} a = rw (line_is p a.is) (omega (arith, ints), omega (arith, ints, a.fits.line_exists))
 
   lines : {place : ℕ} {w : List ℤ} (xs : List Moment) → Ready place w → Run (means s) place w xs →
-      All (λ x. (pos 0 ≤ℤ line_in x.outcome.work) × (line_in x.outcome.work ≤ℤ pos 13)) xs
+      AllByRecursion (λ x. (pos 0 ≤ℤ line_in x.outcome.work) × (line_in x.outcome.work ≤ℤ pos 13)) xs
   lines [] h r = tt
   lines (x ∷ xs) h r = let n = h.next x r.0 r.2 in (on_chart n.at, lines xs (later x n) r.3)
 
@@ -161,7 +161,7 @@ module _ (s : Staircase) where
 
   -- the result is the last line
   stops : (k : Stage) {place : ℕ} {w : List ℤ} (p : Progress) (xs : List Moment) → IsOver k → At s k place w p → Run (means s) place w xs →
-      All (λ y. (y.outcome.write ≡ None) × (y.outcome.request ≡ Stop)) xs
+      AllByRecursion (λ y. (y.outcome.write ≡ None) × (y.outcome.request ≡ Stop)) xs
   stops k p [] l a r = tt
   stops going p (x ∷ xs) l a r = absurd l
   stops due p (x ∷ xs) l a r = absurd l
@@ -172,7 +172,7 @@ module _ (s : Staircase) where
   IsResult : List Moment → Moment → ℤ → Type 0
   IsResult after x v =
       (v ≡ line_in x.work) × (x.outcome.write ≡ Some (record { cell = s.result_cell; value = v }))
-      × All (λ y. (y.outcome.write ≡ None) × (y.outcome.request ≡ Stop)) after
+      × AllByRecursion (λ y. (y.outcome.write ≡ None) × (y.outcome.request ≡ Stop)) after
 
   result_here : (k : Stage) (p : Progress) (x : Moment) (v : ℤ) (after : List Moment) → is_due k ≡ true → x.work ≡ work_of p →
       Next s k p x → Run (means s) x.outcome.place x.outcome.work after → x.outcome.request ≡ Emit v → IsResult after x v

@@ -1,6 +1,6 @@
 -- The laws of a staircase, over every run of a thread that starts at place 0, whatever cells and answers it is handed.
-use Rattle.std.specs.Prelude.{◌≡◌, ◌+◌, Bool, true, false, cond, not, ◌&&◌, ◌⊎◌, List, [], ◌∷◌, ◌++◌, ℤ, pos, ◌+ℤ◌, ◌≤ℤ◌, ◌<ℤ◌, Some, None, Ok, Err, Result, ◌==◌, int_le, slice_index_or}
-use Rattle.std.specs.List.{AllByRecursion as All}
+use Rattle.std.specs.Prelude.{◌≡◌, Bool, true, false, cond, not, ◌&&◌, ◌⊎◌, List, [], ◌∷◌, ◌++◌, ℤ, pos, ◌+ℤ◌, ◌≤ℤ◌, ◌<ℤ◌, Some, None, Ok, Err, Result, ◌==◌, int_le, slice_index_or}
+use Rattle.std.specs.List.{AllByRecursion}
 use Rattle.model.specs.declared.faults.Fault.{Fault}
 use Rattle.model.specs.declared.threads.Answer.{Answer}
 use Rattle.model.specs.declared.threads.Answer.TheVariants.{Done, Got, Fork}
@@ -73,7 +73,7 @@ module _ (s : Staircase) where
   -- the line never leaves the chart
   abbrev pub LineStays : Type 0
   LineStays = (xs : List Moment) → Runs xs →
-      All (λ x. (pos 0 ≤ℤ line_in x.outcome.work) × (line_in x.outcome.work ≤ℤ pos 13)) xs
+      AllByRecursion (λ x. (pos 0 ≤ℤ line_in x.outcome.work) × (line_in x.outcome.work ≤ℤ pos 13)) xs
 
   -- the reversals never fall, and rise by at most one for each tap
   abbrev pub ReversalsClimb : Type 0
@@ -88,7 +88,7 @@ module _ (s : Staircase) where
   ResultIsLastLine = (before after : List Moment) (x : Moment) (v : ℤ) → Runs (before ++ x ∷ after) →
       x.outcome.request ≡ Emit v →
       (v ≡ line_in x.work) × (x.outcome.write ≡ Some (record { cell = s.result_cell; value = v }))
-      × All (λ y. (y.outcome.write ≡ None) × (y.outcome.request ≡ Stop)) after
+      × AllByRecursion (λ y. (y.outcome.write ≡ None) × (y.outcome.request ≡ Stop)) after
 
   -- line and reversals are what the taps so far come to
   abbrev pub TapsDecide : Type 0

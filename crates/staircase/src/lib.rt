@@ -1,4 +1,6 @@
 //! The staircase: a machine that finds the smallest line of letters that a customer can read.
+#![tactic(auto)]
+
 ghost use Rattle.std.specs.Prelude.{◌≤◌};
 
 pub mod making;

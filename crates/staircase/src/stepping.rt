@@ -82,7 +82,7 @@ impl Staircase {
 impl Machine for Staircase {
     ghost meaning = { means };
 
-    ghost admitted = { λ _ place. (place == 0) };
+    ghost admitted = { λ _ place. place == 0 };
 
     fn step(
         &self,

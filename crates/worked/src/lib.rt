@@ -1,17 +1,19 @@
 //! The rules' worked cases. One table has them all, and one theorem says that they hold.
+#![tactic(auto)]
+
 ghost use Rattle.std.specs.Prelude.{◌≡◌, length};
-ghost use Rattle.std.specs.List.{AllByRecursion as All};
+ghost use Rattle.std.specs.List.{AllByRecursion};
 ghost use Rattle.worked.specs.Table.{Holds, table};
 
 /// Every case of the table holds.
 fn cases_hold()
-    ensures { All Holds table }
+    ensures { AllByRecursion Holds table }
 {}
 
 /// How many worked cases the table has. All of them hold.
 pub fn worked_cases() -> usize
     ensures count { result ≡ length table }
-    ensures hold { All Holds table }
+    ensures hold { AllByRecursion Holds table }
 {
     cases_hold();
     2

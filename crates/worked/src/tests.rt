@@ -12,8 +12,13 @@ use model::sides::Side;
 use model::threads::Answer;
 use staircase::Staircase;
 
-fn staircase_refusal(start_line: u32, wanted: u32, show: usize, res: usize) -> Option<(u8, u32)> {
-    match Staircase::new(start_line, wanted, show, res) {
+fn staircase_refusal(
+    start_line: u32,
+    wanted: u32,
+    show_cell: usize,
+    result_cell: usize,
+) -> Option<(u8, u32)> {
+    match Staircase::new(start_line, wanted, show_cell, result_cell) {
         Ok(_) => None,
         Err(refusal) => Some((refusal.number(), refusal.item())),
     }
