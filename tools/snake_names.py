@@ -5,7 +5,7 @@ words in snake case, facts, records and types in camel case. Run once, after the
 usage: python3 tools/snake_names.py [FOLDER]    rewrites crates/, README.md and docs/ of FOLDER (default: this repository)
 
 Functions of src/, strings, inputs, outputs and the goals that Rattle names keep their names. It stops, and changes
-nothing, where two names would fall together.
+nothing, where two definitions of one file would fall together.
 """
 
 import os
