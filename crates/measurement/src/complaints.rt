@@ -61,8 +61,7 @@ impl fmt::Display for Complaint {
             ),
             Self::NotANumber(argument) => write!(f, "{argument}: not a number, or too large a one"),
             Self::Refused { argument, refusal } => {
-                let number = refusal.number();
-                write!(f, "{argument}: out of range, refused ({number})")
+                write!(f, "{argument}: out of range, {refusal}")
             }
             Self::NoTap { line } => write!(
                 f,

@@ -1,52 +1,29 @@
 ghost use Rattle.std.specs.Prelude.{◌≡◌};
-ghost use Rattle.model.specs.Faults.{fault, cause_number, layer_number};
+ghost use Rattle.model.specs.Faults.{fault};
 
-/// The causes that the rules name. Another machine may have causes of its own: in a fault a cause is a byte.
-#[derive(Clone, Copy)]
+/// The causes that the rules name, with their numbers.
+#[derive(Clone, Copy, PartialEq, Eq, Debug)]
 pub enum Cause {
-    NoSuchPlace,
-    NotATap,
-    NumbersOutOfRange,
+    NoSuchPlace = 2,
+    NotATap = 3,
+    NumbersOutOfRange = 4,
 }
 
-/// Where in the tablet a fault arose.
-#[derive(Clone, Copy)]
+/// Where in the tablet a fault arose, with the layers' numbers.
+#[derive(Clone, Copy, PartialEq, Eq, Debug)]
 pub enum Layer {
-    Expression,
-    Machine,
-    Kernel,
+    Expression = 1,
+    Machine = 2,
+    Kernel = 3,
 }
 
 /// Why a step has no outcome: a cause, the layer that it arose in, and the expression's node (0 in the other layers).
-#[derive(Clone, Copy)]
+// Bytes and no enums: by the rules each is a byte, so that a machine may have causes of its own.
+#[derive(Clone, Copy, PartialEq, Eq, Debug)]
 pub struct Fault {
     pub cause: u8,
     pub layer: u8,
     pub node: u8,
-}
-
-impl Cause {
-    const fn number(self) -> u8
-        ensures { result ≡ cause_number self }
-    {
-        match self {
-            Cause::NoSuchPlace => 2,
-            Cause::NotATap => 3,
-            Cause::NumbersOutOfRange => 4,
-        }
-    }
-}
-
-impl Layer {
-    const fn number(self) -> u8
-        ensures { result ≡ layer_number self }
-    {
-        match self {
-            Layer::Expression => 1,
-            Layer::Machine => 2,
-            Layer::Kernel => 3,
-        }
-    }
 }
 
 impl Fault {
@@ -55,8 +32,8 @@ impl Fault {
         ensures { result ≡ fault cause layer node }
     {
         Fault {
-            cause: cause.number(),
-            layer: layer.number(),
+            cause: cause as u8,
+            layer: layer as u8,
             node,
         }
     }

@@ -1,11 +1,11 @@
 ghost use Rattle.std.specs.Prelude.{◌≡◌};
-ghost use Rattle.model.specs.Frames.{plain_fields, fields_of};
+ghost use Rattle.model.specs.Frames.{fields_of};
 
 use crate::faults::Fault;
 use crate::sides::Side;
 
 /// What came of a turn.
-#[derive(Clone, Copy)]
+#[derive(Clone, Copy, PartialEq, Eq, Debug)]
 pub enum Event {
     /// The policy picked no side.
     Rested,
@@ -17,6 +17,7 @@ pub enum Event {
     Waits,
     Received(i32),
     /// 1 where the fork made a copy, -1 where the side had no room for one.
+    // A number and no enum: by the rules it is the number that the thread is answered.
     Forked(i32),
     Emitted(i32),
     Stopped,
@@ -25,7 +26,7 @@ pub enum Event {
 }
 
 /// What a turn answers: the side that was picked, if any, the label of the thread that was taken out, and what came of it.
-#[derive(Clone, Copy)]
+#[derive(Clone, Copy, PartialEq, Eq, Debug)]
 pub struct Frame {
     pub side: Option<Side>,
     pub label: u16,
@@ -33,6 +34,7 @@ pub struct Frame {
 }
 
 /// A frame as the rules list it, field by field. What an event does not name is 0.
+// Numbers and no enums: the rules list these, and `Frame` is the same with enums.
 #[derive(Clone, Copy, PartialEq, Eq, Debug)]
 pub struct Fields {
     pub side: u8,
@@ -44,50 +46,36 @@ pub struct Fields {
     pub place: u16,
 }
 
-/// The fields of an event that is no fault.
-fn plain(side: u8, event: u8, label: u16, value: i32) -> Fields
-    ensures { result ≡ plain_fields side event label value }
-{
-    Fields {
-        side,
-        event,
-        label,
-        value,
-        layer: 0,
-        node: 0,
-        place: 0,
-    }
-}
+impl From<Frame> for Fields {
+    ghost from_gives = { λ frame fields. fields ≡ fields_of frame };
 
-impl Frame {
     /// The frame's fields by the rules' numbers.
-    pub fn fields(&self) -> Fields
-        ensures { result ≡ fields_of self.now }
-    {
-        let label = self.label;
-        let side = match self.side {
-            None => 0,
-            Some(Side::Shop) => 1,
-            Some(Side::Patient) => 2,
+    fn from(frame: Frame) -> Fields {
+        let side = frame.side.map_or(0, |side| side as u8);
+        let plain = |event, value| Fields {
+            side,
+            event,
+            label: frame.label,
+            value,
+            layer: 0,
+            node: 0,
+            place: 0,
         };
-        match self.event {
-            Event::Rested => plain(side, 0, label, 0),
-            Event::NoThread => plain(side, 1, label, 0),
-            Event::WentOn => plain(side, 2, label, 0),
-            Event::Sent(value) => plain(side, 3, label, value),
-            Event::Waits => plain(side, 4, label, 0),
-            Event::Received(value) => plain(side, 5, label, value),
-            Event::Forked(value) => plain(side, 6, label, value),
-            Event::Emitted(value) => plain(side, 7, label, value),
-            Event::Stopped => plain(side, 8, label, 0),
+        match frame.event {
+            Event::Rested => plain(0, 0),
+            Event::NoThread => plain(1, 0),
+            Event::WentOn => plain(2, 0),
+            Event::Sent(value) => plain(3, value),
+            Event::Waits => plain(4, 0),
+            Event::Received(value) => plain(5, value),
+            Event::Forked(value) => plain(6, value),
+            Event::Emitted(value) => plain(7, value),
+            Event::Stopped => plain(8, 0),
             Event::Faulted { fault, place } => Fields {
-                side,
-                event: 9,
-                label,
-                value: i32::from(fault.cause),
                 layer: fault.layer,
                 node: fault.node,
                 place,
+                ..plain(9, i32::from(fault.cause))
             },
         }
     }

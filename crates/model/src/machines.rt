@@ -13,6 +13,8 @@ pub trait Machine {
     /// Whether a thread may start at a place.
     ghost admitted: { Self → ℕ → Bool };
 
+    /// The outcome of one step.
+    // Place and work numbers are no struct: by the rules they are two of the four that a step hangs on, and the laws name each by itself.
     fn step(
         &self,
         place: u16,

@@ -1,6 +1,9 @@
 ghost use Rattle.std.specs.Prelude.{◌≡◌};
 ghost use Rattle.model.specs.Refusals.{number_of, item_of};
 
+use std::error::Error;
+use std::fmt;
+
 /// Why a call was refused. A refused call changes nothing.
 #[derive(Clone, Copy, PartialEq, Eq, Debug)]
 pub enum Refusal {
@@ -10,17 +13,19 @@ pub enum Refusal {
     BufferTooShort,
 }
 
-impl Refusal {
-    /// The refusal's number in the rules' list.
-    pub fn number(self) -> u8
-        ensures { result ≡ number_of self }
-    {
-        match self {
+/// The refusal's number in the rules' list.
+impl From<Refusal> for u8 {
+    ghost from_gives = { λ refusal number. number ≡ number_of refusal };
+
+    fn from(refusal: Refusal) -> u8 {
+        match refusal {
             Refusal::StaircaseOutOfRange => 6,
             Refusal::BufferTooShort => 14,
         }
     }
+}
 
+impl Refusal {
     /// The item that the refusal is about, 0 where the rules name none.
     pub fn item(self) -> u32
         ensures { result ≡ item_of self }
@@ -30,3 +35,12 @@ impl Refusal {
         }
     }
 }
+
+impl fmt::Display for Refusal {
+    fn fmt<W: fmt::Write>(&self, f: &mut fmt::Formatter<W>) -> fmt::Result {
+        let number = u8::from(*self);
+        write!(f, "refused ({number})")
+    }
+}
+
+impl Error for Refusal {}

@@ -18,10 +18,9 @@ fn staircase_refusal(
     show_cell: usize,
     result_cell: usize,
 ) -> Option<(u8, u32)> {
-    match Staircase::new(start_line, wanted, show_cell, result_cell) {
-        Ok(_) => None,
-        Err(refusal) => Some((refusal.number(), refusal.item())),
-    }
+    Staircase::new(start_line, wanted, show_cell, result_cell)
+        .err()
+        .map(|refusal| (u8::from(refusal), refusal.item()))
 }
 
 #[test]
@@ -47,7 +46,7 @@ fn a_short_buffer_is_refused_and_kept(rt: HostRuntime) {
     assert!(rt; refusal == Err(Refusal::BufferTooShort));
     assert!(rt; out == [b'x'; 12]);
     assert!(rt; reading == Reading { label: 9, value: 7 });
-    assert_eq!(rt; Refusal::BufferTooShort.number(), 14);
+    assert_eq!(rt; u8::from(Refusal::BufferTooShort), 14);
     assert_eq!(rt; Refusal::BufferTooShort.item(), 0);
 }
 
@@ -150,7 +149,7 @@ fn frames_have_their_fields(rt: HostRuntime) {
         node: 0,
         place: 0,
     };
-    assert_eq!(rt; rested.fields(), none);
+    assert_eq!(rt; Fields::from(rested), none);
     let fault = Fault {
         cause: 1,
         layer: 2,
@@ -170,5 +169,5 @@ fn frames_have_their_fields(rt: HostRuntime) {
         node: 3,
         place: 4,
     };
-    assert_eq!(rt; faulted.fields(), all);
+    assert_eq!(rt; Fields::from(faulted), all);
 }
