@@ -5,11 +5,17 @@ use measurement::running::{measure, prepare};
 use measurement::settings::Settings;
 use staircase::Staircase;
 use staircase::taps::Tap;
+use std::alloc::Global;
 use worked::worked_cases;
 
 /// Prints the line that a staircase shows after some taps.
-fn print_shown(rt: &HostRuntime, staircase: &Staircase, taps: &[Tap]) -> anyhow::Result<()> {
-    let report = measure(rt.alloc(), staircase, 9, taps)?;
+fn print_shown(
+    rt: &impl Print,
+    heap: Global,
+    staircase: &Staircase,
+    taps: &[Tap],
+) -> anyhow::Result<()> {
+    let report = measure(heap, staircase, 9, taps)?;
     let count = taps.len();
     if let Some(line) = report.shown.last() {
         println!(rt; "after {count} taps: line {line}")?;
@@ -25,6 +31,11 @@ fn main(rt: HostRuntime) -> anyhow::Result<()> {
         wanted_reversals: 2,
         label: 9,
     })?;
-    print_shown(&rt, &staircase, &[Tap::Seen, Tap::Seen])?;
-    print_shown(&rt, &staircase, &[Tap::Seen, Tap::Seen, Tap::NotSeen])
+    print_shown(&rt, rt.alloc(), &staircase, &[Tap::Seen, Tap::Seen])?;
+    print_shown(
+        &rt,
+        rt.alloc(),
+        &staircase,
+        &[Tap::Seen, Tap::Seen, Tap::NotSeen],
+    )
 }

@@ -1,8 +1,9 @@
 -- Hexadecimal digits, read as the standard library reads them, give their number back. Assumes nothing.
-use Rattle.std.proofs.Common.{◌≡◌, ℕ, zero, suc, ◌+◌, ◌*◌, ◌/◌, ◌%◌, ◌^◌, ◌<◌, Bool, true, ◌&&◌, eqb, refl, ap, ◌∙◌, mod-lt, mod-eq_of_lt, mul_assoc, add-mul, zero-mul, arith}
+use Rattle.std.proofs.Common.{◌≡◌, ℕ, zero, suc, ◌+◌, ◌-◌, map, ◌*◌, ◌/◌, ◌%◌, ◌^◌, ◌<◌, Bool, true, ◌&&◌, eqb, refl, ap, ◌∙◌, mod-lt, mod-eq_of_lt, mul_assoc, add-mul, zero-mul, arith}
 use native.Mathlib.Nat.{mod-one, pow-succ', one-le-pow}
 use lib.Arith.{mod-mul}
 use Rattle.std.proofs.lemmas.Bool.Decides.{Decides-eqb, Decides-below_and}
+use Rattle.std.specs.List.{range_with_len}
 use Rattle.std.specs.Str.Parse.{digits_value, digits_value_after}
 use Rattle.std.specs.Char.{digit_value}
 use Rattle.lines.specs.Hex.{digit_code, hex}
@@ -31,3 +32,11 @@ back_after (suc w) n m =
 -- digits give back a number that they are enough for
 pub back : (w n : ℕ) → n < 16 ^ w → digits_value 16 (hex w n) ≡ n
 back w n h = back_after w n 0 ∙ omega (arith, zero-mul (16 ^ w), mod-eq_of_lt h)
+
+-- digits, one for each place, are those of the number
+pub placed : (N n a w : ℕ) → a + w ≡ N → map (λ k. digit_code (n / 16 ^ (N - 1 - k) % 16)) (range_with_len a w) ≡ hex w n
+placed N n a zero e = refl
+placed N n a (suc w) e =
+    let here : N - 1 - a ≡ w = omega arith in
+    let r = placed N n (a + 1) w (omega arith) in
+    simp (here, r)

@@ -17,11 +17,10 @@ pub trait LineForm {
 pub(crate) fn put_line(line: &[u8], out: &mut [u8]) -> Result<usize, Refusal>
     ensures { Written line.now out.old out.new result }
 {
-    let n = line.len();
-    if out.len() < n {
+    let len = line.len();
+    if out.len() < len {
         return Err(Refusal::BufferTooShort);
     }
-    let front = &mut out[0..n];
-    front.copy_from_slice(line);
-    Ok(n)
+    out[..len].copy_from_slice(line);
+    Ok(len)
 }

@@ -2,7 +2,7 @@ ghost use Rattle.std.specs.Prelude.{◌≡◌};
 ghost use Rattle.lines.specs.Lines.{reading_line, ReadsBack};
 
 use crate::forms::{LineForm, put_line};
-use crate::hex::{four_bytes, two_bytes};
+use crate::hex::digits;
 use model::refusals::Refusal;
 
 /// A result of a measurement: the label of the thread that measured, and the value that it emitted.
@@ -25,9 +25,10 @@ impl Reading {
     fn bytes(&self) -> [u8; 13]
         ensures { result ≡ reading_line self.now }
     {
-        let [l0, l1, l2, l3] = two_bytes(self.label);
-        let [v0, v1, v2, v3, v4, v5, v6, v7] = four_bytes(self.value);
-        [l0, l1, l2, l3, v0, v1, v2, v3, v4, v5, v6, v7, b'\n']
+        let mut line = [b'\n'; 13];
+        line[..4].copy_from_slice(&digits::<4>(self.label.into()));
+        line[4..12].copy_from_slice(&digits::<8>(self.value.cast_unsigned()));
+        line
     }
 
     /// The reading's line: its label and its value.

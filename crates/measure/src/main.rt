@@ -9,14 +9,13 @@ use measurement::settings::Settings;
 use measurement::taps::add_tap;
 use staircase::taps::Tap;
 use std::env;
-use std::io::{BufRead, BufReader, Write};
+use std::io::{BufRead, BufReader};
 use std::process::ExitCode;
 
 fn read_settings(rt: &HostRuntime) -> anyhow::Result<Settings> {
-    let Ok(arguments) = env::args(rt) else {
-        return Err(anyhow!("the arguments are not text"));
-    };
-    let mut arguments = arguments.skip(1);
+    let mut arguments = env::args(rt)
+        .map_err(|_| anyhow!("the arguments are not text"))?
+        .skip(1);
     let (Some(start_line), Some(wanted_reversals), Some(label), None) = (
         arguments.next(),
         arguments.next(),
@@ -25,30 +24,24 @@ fn read_settings(rt: &HostRuntime) -> anyhow::Result<Settings> {
     ) else {
         return Err(Complaint::ArgumentCount.into());
     };
-    let settings = Settings::read(
-        start_line.as_str(),
-        wanted_reversals.as_str(),
-        label.as_str(),
-    )?;
-    Ok(settings)
+    Ok(Settings::read(&start_line, &wanted_reversals, &label)?)
 }
 
 fn read_taps(rt: &HostRuntime) -> anyhow::Result<Vec<Tap>> {
     let heap = rt.alloc();
     let mut taps = Vec::new(heap);
     for line in BufReader::new(heap, rt.stdin())?.split(heap, b'\n') {
-        let line = line?;
-        add_tap(&mut taps, line.as_slice())?;
+        add_tap(&mut taps, &line?)?;
     }
     Ok(taps)
 }
 
-fn print_report(rt: &HostRuntime, report: &Report) -> anyhow::Result<()> {
-    for line in report.shown.iter() {
+fn print_report(rt: &impl Print, report: &Report) -> anyhow::Result<()> {
+    for line in &report.shown {
         println!(rt; "line {line}")?;
     }
     match report.reading {
-        Some(reading) => rt.stdout().write_all(&reading.line())?,
+        Some(reading) => rt.write_all(&reading.line())?,
         None => println!(rt; "not finished")?,
     }
     Ok(())
@@ -59,7 +52,7 @@ fn run(rt: &HostRuntime) -> anyhow::Result<()> {
     let settings = read_settings(rt)?;
     let staircase = prepare(settings)?;
     let taps = read_taps(rt)?;
-    let measured = measure(rt.alloc(), &staircase, settings.label, taps.as_slice());
+    let measured = measure(rt.alloc(), &staircase, settings.label, &taps);
     let report = measured.map_err(|_| Complaint::Memory)?;
     print_report(rt, &report)
 }

@@ -1,18 +1,17 @@
 -- What a staircase's thread does with a tap. Assumes nothing.
-use Rattle.std.proofs.Common.{◌≡◌, ℕ, ◌+◌, ◌<◌, ◌≤◌, ◌⊎◌, List, [], ◌∷◌, ◌++◌, length, get_or, take, replicate, ℤ, pos, Some, None, Ok, Err, Option, sym, refl, ap, ◌∙◌, subst, inl, inr, arith, w32, SFits, to_z, of_z, below_more}
+use Rattle.std.proofs.Common.{◌≡◌, ℕ, ◌+◌, ◌<◌, ◌≤◌, ◌⊎◌, List, [], ◌∷◌, ◌++◌, length, get_or, take, replicate, ℤ, pos, Some, None, Ok, Option, sym, ap, ◌∙◌, subst, inl, inr, arith, w32, SFits, to_z, of_z, below_more}
 use Rattle.std.proofs.lemmas.List.FromFn.{map-range_with_len_more}
-use Rattle.std.proofs.lemmas.List.{set-set, get_or-set_same}
+use Rattle.std.proofs.lemmas.List.{set-set, get_or-set_same, take_more}
 use Rattle.std.proofs.lemmas.Int.{to_z-of_z}
 use Rattle.std.proofs.lemmas.Bool.{le-leb, lt-leb, cases_lt}
-use Rattle.model.specs.declared.faults.Fault.{Fault}
+use Rattle.std.specs.Result.{IsOk}
 use Rattle.model.specs.declared.threads.Answer.TheVariants.{Done, Got}
 use Rattle.model.specs.declared.threads.Request.TheVariants.{Receive, Emit}
 use Rattle.staircase.specs.declared.Staircase.{Staircase}
-use Rattle.staircase.specs.declared.progress.Progress.{Progress}
 use Rattle.staircase.specs.declared.taps.Tap.{Tap}
-use Rattle.staircase.specs.declared.taps.Tap.TheVariants.{Seen, NotSeen}
+use Rattle.staircase.specs.declared.taps.Tap.TheVariants.{Seen}
 use Rattle.staircase.specs.Taps.{message_of, tap_in}
-use Rattle.staircase.specs.Progress.{Bounded, judged}
+use Rattle.staircase.specs.Progress.{Course, Bounded, progress_in, work_of, judged}
 use Rattle.staircase.specs.Steps.{start}
 use Rattle.staircase.proofs.Judging.{progress_back, judged_climbs, after, after_more, after_line, after_reversals}
 use Rattle.staircase.proofs.Stages.{start_bounded, judged_fits}
@@ -21,34 +20,31 @@ use Rattle.measurement.specs.Threads.{started, stepped, asked, emitted, waiting,
 use Rattle.measurement.specs.Measuring.{line_at, reversals_at, lines_before}
 
 heard : (t : Tap) → tap_in (message_of t) ≡ Ok t
-heard Seen = refl
-heard NotSeen = refl
+heard t = grind arith
 
 module _ (s : Staircase) where
   pub begins : stepped s Done (stepped s Done started) ≡ waiting s (start s)
   begins = let e = progress_back (start s) (start_bounded s) in simp e
 
-  module _ (p : Progress) (fits : Bounded 15 p) (less : p.reversals < s.wanted_reversals) (t : Tap) where
+  module _ (p : Course) (fits : Bounded 15 p) (less : p.reversals < s.wanted_reversals) (t : Tap) where
+    before : progress_in (work_of p) ≡ Ok p
+    before = progress_back p fits
+
+    behind : progress_in (work_of (judged t p)) ≡ Ok (judged t p)
+    behind = progress_back (judged t p) (judged_fits s p t fits less)
+
     -- too few reversals still: the next line is shown
     pub shows_next : (judged t p).reversals < s.wanted_reversals →
         (stepped s Done (stepped s (Got (message_of t)) (waiting s p)) ≡ waiting s (judged t p))
         × (asked s Done (stepped s (Got (message_of t)) (waiting s p)) ≡ Ok Receive)
     shows_next l =
-        let a = progress_back p fits in
-        let b = progress_back (judged t p) (judged_fits s p t fits less) in
-        let c = heard t in
         let d = lt-leb _ _ l in
-        (simp (a, c, d, b, set-set), simp (a, c, d, b))
+        (simp (before, heard t, d, behind, set-set), simp (before, heard t, d, behind))
 
     -- enough: the line is the result
     pub gives_result : s.wanted_reversals ≤ (judged t p).reversals →
         asked s Done (stepped s (Got (message_of t)) (waiting s p)) ≡ Ok (Emit (pos (judged t p).line))
-    gives_result l =
-        let a = progress_back p fits in
-        let b = progress_back (judged t p) (judged_fits s p t fits less) in
-        let c = heard t in
-        let d = le-leb _ _ l in
-        simp (a, c, d, b)
+    gives_result l = let d = le-leb _ _ l in simp (before, heard t, d, behind)
 
 -- After i taps the thread waits with what they come to, and the wanted reversals were not reached.
 pub record Sits (s : Staircase) (taps : List Tap) (i : ℕ) (t : Thread) : Type 0 where
@@ -74,36 +70,40 @@ module _ (s : Staircase) (taps : List Tap) where
     pub waits : Waits s t
     waits = record { p = after (start s) (take i taps); is = sits.is; fits = sits.fits; less = few }
 
-    shows : (cell : ℕ) → cell ≡ s.show_cell → get_or t.cells cell (pos 0) ≡ line_at s.start_line taps i
+    abbrev p : Course
+    p = after (start s) (take i taps)
+
+    shows : (cell : ℕ) → cell ≡ s.show_cell → get_or t.cells cell (pos 0) ≡ pos p.line
     shows cell e =
         let exists : s.show_cell < length (replicate 64 (pos 0)) = omega (arith, s.show_exists) in
         ap (λ u. get_or u.cells cell (pos 0)) sits.is
-        ∙ ap (λ n. get_or (waiting s (after (start s) (take i taps))).cells n (pos 0)) e
+        ∙ ap (λ n. get_or (waiting s p).cells n (pos 0)) e
         ∙ get_or-set_same (replicate 64 (pos 0)) s.show_cell _ (pos 0) exists
-        ∙ line_now i
 
     -- one more line is shown
-    pub one_more_line : (cell : ℕ) (shown more : List ℤ) → cell ≡ s.show_cell → SFits w32 (get_or t.cells cell (pos 0)) →
+    pub one_more_line : (cell : ℕ) (shown more : List ℤ) → cell ≡ s.show_cell →
         more ≡ shown ++ to_z w32 (of_z w32 (get_or t.cells cell (pos 0))) ∷ [] → shown ≡ lines_before s.start_line taps i →
         more ≡ lines_before s.start_line taps (i + 1)
-    one_more_line cell shown more e fits f g =
-        let a = to_z-of_z w32 _ fits ∙ shows cell e in
+    one_more_line cell shown more e f g =
+        let fits : SFits w32 (pos p.line) = record { sfits = omega (arith, sits.fits.line_exists) } in
+        let a = to_z-of_z w32 _ fits ∙ line_now i in
         let b = map-range_with_len_more (line_at s.start_line taps) 0 i i (omega arith) in
+        let c = shows cell e in
         cc
 
     -- a further tap: the thread waits again, or gives its result
-    pub hears : (tap : Tap) (u : Thread) (r : Option ℤ) → take (i + 1) taps ≡ take i taps ++ tap ∷ [] →
-        u ≡ stepped s Done (stepped s (Got (message_of tap)) t) →
-        r ≡ emitted (asked s Done (stepped s (Got (message_of tap)) t)) →
+    pub hears : (u : Thread) (r : Option ℤ) → i < length taps →
+        u ≡ stepped s Done (stepped s (Got (message_of (get_or taps i Seen))) t) →
+        r ≡ emitted (asked s Done (stepped s (Got (message_of (get_or taps i Seen))) t)) →
         ((r ≡ None) × Sits s taps (i + 1) u)
         ⊎ ((r ≡ Some (line_at s.start_line taps (i + 1))) × (reversals_at taps (i + 1) ≡ s.wanted_reversals))
-    hears tap u r more e f = go (cases_lt (judged tap p).reversals s.wanted_reversals)
+    hears u r within e f = go (cases_lt (judged tap p).reversals s.wanted_reversals)
       where
-        p : Progress
-        p = after (start s) (take i taps)
+        tap : Tap
+        tap = get_or taps i Seen
 
         q_is : after (start s) (take (i + 1) taps) ≡ judged tap p
-        q_is = ap (after (start s)) more ∙ after_more (start s) (take i taps) tap
+        q_is = ap (after (start s)) (take_more taps i Seen within) ∙ after_more (start s) (take i taps) tap
 
         reversals_is : reversals_at taps (i + 1) ≡ (judged tap p).reversals
         reversals_is = sym (reversals_now (i + 1)) ∙ ap (λ x. x.reversals) q_is
@@ -130,12 +130,11 @@ module _ (s : Staircase) (taps : List Tap) where
             )
 
 -- a thread that waits does not fault at a tap
-pub never_faults : (s : Staircase) (t u : Thread) (tap : Tap) (f : Fault) → Waits s t → u ≡ stepped s (Got (message_of tap)) t →
-    Err f ≡ asked s Done u → ⊥
-never_faults s t u tap f w e h =
-    let d : Err f ≡ asked s Done (stepped s (Got (message_of tap)) (waiting s w.p)) =
-    h ∙ ap (asked s Done) e ∙ ap (λ x. asked s Done (stepped s (Got (message_of tap)) x)) w.is in
+pub never_faults : (s : Staircase) (t u : Thread) (tap : Tap) → Waits s t → u ≡ stepped s (Got (message_of tap)) t → IsOk (asked s Done u)
+never_faults s t u tap w e =
+    let d : asked s Done u ≡ asked s Done (stepped s (Got (message_of tap)) (waiting s w.p)) =
+    ap (asked s Done) (e ∙ ap (stepped s (Got (message_of tap))) w.is) in
     elim (cases_lt (judged tap w.p).reversals s.wanted_reversals) [
-      | inl l ↦ let z = d ∙ (shows_next s w.p w.fits w.less tap l).1 in grind arith
-      | inr l ↦ let z = d ∙ gives_result s w.p w.fits w.less tap l in grind arith
+      | inl l ↦ rw (d ∙ (shows_next s w.p w.fits w.less tap l).1)
+      | inr l ↦ rw (d ∙ gives_result s w.p w.fits w.less tap l)
     ]

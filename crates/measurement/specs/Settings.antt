@@ -1,6 +1,7 @@
 -- Settings from text.
 use Rattle.std.specs.Prelude.{◌≡◌, ℕ, ◌^◌, ◌<◌, List, Ok, Err, Result}
 use Rattle.std.specs.Str.Parse.{IsNumeral, digits_value, without_leading_plus}
+use Rattle.measurement.specs.declared.complaints.Argument.{Argument}
 use Rattle.measurement.specs.declared.complaints.Argument.TheVariants.{StartLine, WantedReversals, Label}
 use Rattle.measurement.specs.declared.complaints.Complaint.{Complaint}
 use Rattle.measurement.specs.declared.complaints.Complaint.TheVariants.{ArgumentCount, NotANumber, Refused, NoTap, Memory}
@@ -13,6 +14,11 @@ number_in text = digits_value 10 (without_leading_plus text)
 -- the text is such digits, and the number fits so many bits
 abbrev pub Number : ℕ → List ℕ → Type 0
 Number bits text = IsNumeral 10 (without_leading_plus text) × (number_in text < 2 ^ bits)
+
+-- what a parse of the text gives; where it gives none, the complaint names the argument
+abbrev pub ReadsAs : {N E : Type 0} → (List ℕ → Result N E → Type 0) → List ℕ → Argument → Result N Complaint → Type 0
+ReadsAs Parses text argument (Ok n) = Parses text (Ok n)
+ReadsAs {N} {E} Parses text argument (Err c) = (c ≡ NotANumber argument) × (e : E) × Parses text (Err e)
 
 -- start line, wanted reversals and label, or which of them is the first that is no number
 abbrev pub Reads : List ℕ → List ℕ → List ℕ → Result Settings Complaint → Type 0

@@ -7,8 +7,7 @@ use Rattle.model.specs.declared.threads.Outcome.{Outcome}
 use Rattle.model.specs.declared.threads.Request.{Request}
 use Rattle.model.specs.declared.threads.Request.TheVariants.{GoOn, Send, Receive, Fork, Emit, Stop}
 use Rattle.staircase.specs.declared.Staircase.{Staircase}
-use Rattle.staircase.specs.declared.progress.Progress.{Progress}
-use Rattle.staircase.specs.Progress.{Bounded, work_of}
+use Rattle.staircase.specs.Progress.{Course, Bounded, work_of}
 use Rattle.staircase.specs.Steps.{means}
 use Rattle.measurement.specs.declared.threads.Thread.{Thread}
 
@@ -48,11 +47,11 @@ emitted (Ok Stop) = None
 emitted (Err f) = None
 
 -- the thread has shown the line of a progress, and waits for a tap
-abbrev pub waiting : Staircase → Progress → Thread
+abbrev pub waiting : Staircase → Course → Thread
 waiting s p = record { place = 2; work = work_of p; cells = slice_set no_cells s.show_cell (pos p.line) }
 
 pub record Waits (s : Staircase) (t : Thread) : Type 0 where
-  pub p : Progress
+  pub p : Course
   pub is : t ≡ waiting s p
   pub fits : Bounded 15 p
   pub less : p.reversals < s.wanted_reversals

@@ -1,7 +1,7 @@
 use lines::readings::Reading;
 
 /// What came of a measurement.
-#[derive(Drop)]
+#[derive(PartialEq, Eq, Debug, Drop)]
 pub struct Report {
     /// The lines of letters that were shown, in order.
     pub shown: Vec<i32>,

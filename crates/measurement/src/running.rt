@@ -1,4 +1,4 @@
-ghost use Rattle.std.specs.Prelude.{◌≡◌, [], IfOk};
+ghost use Rattle.std.specs.Prelude.{IfOk};
 ghost use Rattle.measurement.specs.Measuring.{Prepares, Measured, Reported};
 
 use crate::complaints::{Argument, Complaint};
@@ -24,53 +24,48 @@ pub fn prepare(settings: Settings) -> Result<Staircase, Complaint>
         wanted_reversals,
         ..
     } = settings;
-    match Staircase::new(start_line, wanted_reversals, SHOW_CELL, RESULT_CELL) {
-        Ok(staircase) => Ok(staircase),
-        Err(refusal) => {
-            let argument = if start_line > LAST_LINE {
-                Argument::StartLine
-            } else {
-                Argument::WantedReversals
-            };
-            Err(Complaint::Refused { argument, refusal })
-        }
-    }
+    Staircase::new(start_line, wanted_reversals, SHOW_CELL, RESULT_CELL).map_err(|refusal| {
+        let argument = if start_line > LAST_LINE {
+            Argument::StartLine
+        } else {
+            Argument::WantedReversals
+        };
+        Complaint::Refused { argument, refusal }
+    })
 }
 
-/// Hands the taps to a new thread of the staircase, until it gives its result or the taps run out. Adds each line that it shows to `shown`.
+/// Hands the taps to a new thread of the staircase, until it gives its result or the taps run out. Answers the lines that it shows, and its result.
 fn show_and_hear(
+    heap: Global,
     staircase: &Staircase,
     taps: &[Tap],
-    shown: &mut Vec<i32>,
-) -> Result<Option<i32>, AllocError>
-    requires { shown.old.items ≡ [] }
-    ensures { IfOk result (λ value. Measured staircase.now taps.now shown.new.items value) }
+) -> Result<(Vec<i32>, Option<i32>), AllocError>
+    ensures { IfOk result (λ found. Measured staircase.now taps.now found.0.items found.1) }
 {
     let show_cell = staircase.show_cell();
+    let mut shown = Vec::new(heap);
     let mut thread = Thread::begin(staircase);
-    for tap in taps {
+    for &tap in taps {
         shown.push(thread.cells[show_cell])?;
-        if let Some(value) = thread.hear(staircase, *tap) {
-            return Ok(Some(value));
+        if let Some(value) = thread.hear(staircase, tap) {
+            return Ok((shown, Some(value)));
         }
     }
     shown.push(thread.cells[show_cell])?;
-    Ok(None)
+    Ok((shown, None))
 }
 
 /// Measures until the wanted reversals are reached or the taps run out.
+// Staircase and taps are no struct: callers have them as two values, and nothing keeps the two together after the call.
 pub fn measure(
     heap: Global,
     staircase: &Staircase,
     label: u16,
     taps: &[Tap],
 ) -> Result<Report, AllocError>
-    ensures { IfOk result (λ report. Reported staircase.now label taps.now report) }
+    ensures { IfOk result (Reported staircase.now label taps.now) }
 {
-    let mut shown = Vec::new(heap);
-    let reading = match show_and_hear(staircase, taps, &mut shown)? {
-        Some(value) => Some(Reading { label, value }),
-        None => None,
-    };
+    let (shown, value) = show_and_hear(heap, staircase, taps)?;
+    let reading = value.map(|value| Reading { label, value });
     Ok(Report { shown, reading })
 }

@@ -4,15 +4,13 @@ use crate::complaints::Complaint;
 use staircase::taps::Tap;
 
 /// The tap that a line writes, if it writes one.
+// No `TryFrom`: neither bytes nor taps are types of this crate.
 fn tap_on(line: &[u8]) -> Option<Tap>
     ensures { WrittenOn line.now result }
 {
-    if line.len() != 1 {
-        return None;
-    }
-    match line[0] {
-        b'1' => Some(Tap::Seen),
-        b'0' => Some(Tap::NotSeen),
+    match line {
+        b"1" => Some(Tap::Seen),
+        b"0" => Some(Tap::NotSeen),
         _ => None,
     }
 }

@@ -18,18 +18,20 @@ pub struct Thread {
     pub cells: [i32; CELLS],
 }
 
+#[tactic(auto, using(std::proofs::lemmas::List::set_past))]
 fn write_cell(cells: &mut [i32; CELLS], write: Option<CellWrite>)
     ensures { cells.new ≡ written write cells.old }
 {
-    if let Some(CellWrite { cell, value }) = write {
-        if cell < CELLS {
-            cells[cell] = value;
-        }
+    if let Some(CellWrite { cell, value }) = write
+        && cell < CELLS
+    {
+        cells[cell] = value;
     }
 }
 
 impl Thread {
     /// Takes one step of the staircase and answers what the thread then asks for.
+    // The staircase is no field of the thread: by the rules a machine belongs to a side, for all its threads, and a thread is plain data without a lifetime.
     fn step(&mut self, staircase: &Staircase, answer: Answer) -> Result<Request, Fault>
         ensures value { result ≡ asked staircase.now answer self.old }
         ensures after { self.new ≡ stepped staircase.now answer self.old }
@@ -55,12 +57,8 @@ impl Thread {
             work: [0; 4],
             cells: [0; CELLS],
         };
-        let Ok(_) = thread.step(staircase, Answer::Done) else {
-            unreachable()
-        };
-        let Ok(_) = thread.step(staircase, Answer::Done) else {
-            unreachable()
-        };
+        thread.step(staircase, Answer::Done).unwrap();
+        thread.step(staircase, Answer::Done).unwrap();
         thread
     }
 
@@ -70,13 +68,10 @@ impl Thread {
         ensures value { result ≡ emitted (asked staircase.now Done (stepped staircase.now (Got (message_of tap)) self.old)) }
         ensures after { self.new ≡ stepped staircase.now Done (stepped staircase.now (Got (message_of tap)) self.old) }
     {
-        let Ok(_) = self.step(staircase, Answer::Got(tap.message())) else {
-            unreachable()
-        };
-        match self.step(staircase, Answer::Done) {
-            Ok(Request::Emit(line)) => Some(line),
-            Ok(_) => None,
-            Err(_) => unreachable(),
+        self.step(staircase, Answer::Got(tap.into())).unwrap();
+        match self.step(staircase, Answer::Done).unwrap() {
+            Request::Emit(line) => Some(line),
+            _ => None,
         }
     }
 }

@@ -14,7 +14,7 @@ pub trait Machine {
     ghost admitted: { Self → ℕ → Bool };
 
     /// The outcome of one step.
-    // Place and work numbers are no struct: by the rules they are two of the four that a step hangs on, and the laws name each by itself.
+    // Place and work numbers are no struct: each machine that is handed both takes them apart at once, the place for what is done and the numbers for how far it is.
     fn step(
         &self,
         place: u16,

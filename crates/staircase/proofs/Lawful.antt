@@ -1,28 +1,28 @@
 -- The laws of a staircase's runs. Assumes nothing.
-use Rattle.std.proofs.Common.{◌≡◌, ℕ, Bool, true, false, ◌⊎◌, List, [], ◌∷◌, ◌++◌, ℤ, pos, ◌+ℤ◌, ◌≤ℤ◌, ◌<ℤ◌, Some, None, Ok, Err, Result, sym, refl, ap, ◌∙◌, inl, inr, zero-add, arith}
+use Rattle.std.proofs.Common.{◌≡◌, ℕ, Bool, true, false, ◌⊎◌, List, [], ◌∷◌, ◌++◌, ℤ, pos, ◌+ℤ◌, ◌≤ℤ◌, ◌<ℤ◌, Some, Ok, Err, Result, sym, refl, ap, ◌∙◌, inl, inr, zero-add, arith}
 use Rattle.std.proofs.lemmas.Int.{ints}
 use Rattle.std.proofs.lemmas.Bool.{le-leb, lt-leb, false≢true}
-use Rattle.std.specs.List.{AllByRecursion}
+use Rattle.std.specs.List.{All}
+use Rattle.std.proofs.lemmas.List.Elements.{All-nil, All-cons}
 use Rattle.model.specs.declared.faults.Fault.{Fault}
 use Rattle.model.specs.declared.threads.Answer.{Answer}
 use Rattle.model.specs.declared.threads.Answer.TheVariants.{Done, Got, Fork}
-use Rattle.model.specs.declared.threads.Request.TheVariants.{Emit, Stop}
+use Rattle.model.specs.declared.threads.Request.TheVariants.{Emit}
 use Rattle.model.specs.Runs.{Moment, Run, place_after, work_after}
 use Rattle.staircase.specs.declared.Staircase.{Staircase}
 use Rattle.staircase.specs.declared.phases.Phase.TheVariants.{Judge}
-use Rattle.staircase.specs.declared.progress.Progress.{Progress}
 use Rattle.staircase.specs.declared.taps.Tap.{Tap}
 use Rattle.staircase.specs.Taps.{tap_in}
-use Rattle.staircase.specs.Progress.{Bounded, work_of, judged}
+use Rattle.staircase.specs.Progress.{Course, Bounded, work_of, judged}
 use Rattle.staircase.specs.Steps.{means, does, start}
-use Rattle.staircase.specs.Laws.{line_in, reversals_of, tap_at, taps_in, emits, is_emit, reached, just_reached, Climbs, Lawful}
+use Rattle.staircase.specs.Laws.{line_in, reversals_of, tap_at, taps_in, emits, is_emit, reached, just_reached, Climbs, OnChart, OnlyStops, Lawful}
 use Rattle.staircase.proofs.Judging.{judged_climbs, line_then, reversals_then, then_none, then_more}
 use Rattle.staircase.proofs.Stages.{Stage, going, due, over, is_due, IsOver, Leads, Judges, keeps, judges, At, Next, start_bounded, first, step, stands, at_show, at_judge, at_report}
 
-line_is : {w : List ℤ} (p : Progress) → w ≡ work_of p → line_in w ≡ pos p.line
+line_is : {w : List ℤ} (p : Course) → w ≡ work_of p → line_in w ≡ pos p.line
 line_is p e = ap line_in e
 
-reversals_are : {w : List ℤ} (p : Progress) → w ≡ work_of p → reversals_of w ≡ pos p.reversals
+reversals_are : {w : List ℤ} (p : Course) → w ≡ work_of p → reversals_of w ≡ pos p.reversals
 reversals_are p e = ap reversals_of e
 
 module _ (s : Staircase) where
@@ -30,7 +30,7 @@ module _ (s : Staircase) where
   ByMessage : List ℤ → Answer → Fault → Type 0
   ByMessage w a f = (v : ℤ) × (a ≡ Got v) × (tap_in v ≡ Err f) × (reversals_of w <ℤ pos s.wanted_reversals)
 
-  judge_faults : (w : List ℤ) (p : Progress) (a : Answer) (f : Fault) → reversals_of w <ℤ pos s.wanted_reversals →
+  judge_faults : (w : List ℤ) (p : Course) (a : Answer) (f : Fault) → reversals_of w <ℤ pos s.wanted_reversals →
       does s (work_of p) (Judge p) a ≡ Err f → ByMessage w a f
   unfolding ByMessage
   judge_faults w p Done f l e = absurd (grind arith)
@@ -42,7 +42,7 @@ module _ (s : Staircase) where
       go (Ok t) i = let z = simp i at e in absurd (grind arith)
       go (Err g) i = let z = simp i at e in let same : g ≡ f = cc in (v, refl, i ∙ ap Err same, l)
 
-  faults_at : (k : Stage) {place : ℕ} {w : List ℤ} (p : Progress) (cells : List ℤ) (a : Answer) (f : Fault) → At s k place w p →
+  faults_at : (k : Stage) {place : ℕ} {w : List ℤ} (p : Course) (cells : List ℤ) (a : Answer) (f : Fault) → At s k place w p →
       means s place w cells a ≡ Err f → ByMessage w a f
   faults_at going {place} {w} p cells a f t e = elim t.here [
     | inl h ↦ let g = sym (at_show s p cells a t.fits) ∙ stands s cells a h t.is e in absurd (grind arith)
@@ -54,10 +54,13 @@ module _ (s : Staircase) where
       let g = sym (at_report s p cells a t.fits) ∙ stands s cells a t.here t.is e in absurd (grind arith)
   faults_at over p cells a f t e = let g = stands s cells a t.here t.is e in absurd (grind arith)
 
+  no_fault_at_first : (w cells : List ℤ) (a : Answer) (f : Fault) → means s 0 w cells a ≡ Err f → ByMessage w a f
+  no_fault_at_first w cells a f e = absurd (grind arith)
+
   -- a thread's stage and progress, and what its next step does
   record Ready (place : ℕ) (w : List ℤ) : Type 0 where
     k : Stage
-    p : Progress
+    p : Course
     fits : Bounded 15 p
     is : is_due k ≡ true → w ≡ work_of p
     next : (x : Moment) → x.place ≡ place → means s place w x.cells x.answer ≡ Ok x.outcome → Next s k p x
@@ -71,10 +74,10 @@ module _ (s : Staircase) where
         fits = start_bounded s;
         is = λ e. absurd (false≢true e);
         next = first s w;
-        faults = λ cells a f e. absurd (grind arith);
+        faults = no_fault_at_first w;
       }
 
-  abbrev later : {k : Stage} {p : Progress} (x : Moment) → Next s k p x → Ready x.outcome.place x.outcome.work
+  abbrev later : {k : Stage} {p : Course} (x : Moment) → Next s k p x → Ready x.outcome.place x.outcome.work
   later x n =
       record {
         k = n.later;
@@ -86,16 +89,16 @@ module _ (s : Staircase) where
       }
 
   -- the line stays on the chart
-  on_chart : {k : Stage} {place : ℕ} {w : List ℤ} {p : Progress} → At s k place w p → (pos 0 ≤ℤ line_in w) × (line_in w ≤ℤ pos 13)
+  on_chart : {k : Stage} {place : ℕ} {w : List ℤ} {p : Course} → At s k place w p → (pos 0 ≤ℤ line_in w) × (line_in w ≤ℤ pos 13)
   on_chart {p = p} a = rw (line_is p a.is) (omega (arith, ints), omega (arith, ints, a.fits.line_exists))
 
   lines : {place : ℕ} {w : List ℤ} (xs : List Moment) → Ready place w → Run (means s) place w xs →
-      AllByRecursion (λ x. (pos 0 ≤ℤ line_in x.outcome.work) × (line_in x.outcome.work ≤ℤ pos 13)) xs
-  lines [] h r = tt
-  lines (x ∷ xs) h r = let n = h.next x r.0 r.2 in (on_chart n.at, lines xs (later x n) r.3)
+      All OnChart xs
+  lines [] h r = All-nil OnChart
+  lines (x ∷ xs) h r = let n = h.next x r.0 r.2 in All-cons OnChart x xs (on_chart n.at) (lines xs (later x n) r.3)
 
   -- the reversals climb
-  climb : {v w : List ℤ} (p q : Progress) (y : Moment) → v ≡ work_of p → w ≡ work_of q → Judges y p q →
+  climb : {v w : List ℤ} (p q : Course) (y : Moment) → v ≡ work_of p → w ≡ work_of q → Judges y p q →
       (reversals_of w ≡ reversals_of v) ⊎ ((reversals_of w ≡ reversals_of v +ℤ pos 1) × (t : Tap) × (tap_at y ≡ t ∷ []))
   climb p q y a b (keeps none e) = inl (reversals_are q b ∙ ap (λ x. pos x.reversals) e ∙ sym (reversals_are p a))
   climb p q y a b (judges t tap e) =
@@ -122,35 +125,25 @@ module _ (s : Staircase) where
   now_due over xs = false
 
   now_due_none : (k : Stage) → is_due k ≡ now_due k []
-  now_due_none going = refl
-  now_due_none due = refl
-  now_due_none over = refl
+  now_due_none k = grind arith
 
-  now_due_more : (k l : Stage) (p : Progress) (x : Moment) (xs : List Moment) → Leads k l →
+  now_due_more : (k l : Stage) (p : Course) (x : Moment) (xs : List Moment) → Leads k l →
       At s l x.outcome.place x.outcome.work p → now_due l xs ≡ now_due k (x ∷ xs)
-  now_due_more due over p x xs leads a = refl
-  now_due_more over over p x xs leads a = refl
   now_due_more going going p x xs leads a = go xs
     where
       no : reached s x ≡ false
       no = rw (reversals_are p a.is) (lt-leb _ _ a.count)
 
       go : (xs : List Moment) → just_reached s xs ≡ just_reached s (x ∷ xs)
-      go [] = sym no
-      go (y ∷ ys) = simp no
+      go xs = grind (arith, no)
   now_due_more going due p x xs leads a = go xs
     where
       yes : reached s x ≡ true
       yes = rw (reversals_are p a.is) (le-leb _ _ (omega (arith, a.count)))
 
       go : (xs : List Moment) → now_due due xs ≡ just_reached s (x ∷ xs)
-      go [] = sym yes
-      go (y ∷ ys) = simp yes
-  now_due_more going over p x xs leads a = absurd leads
-  now_due_more due going p x xs leads a = absurd leads
-  now_due_more due due p x xs leads a = absurd leads
-  now_due_more over going p x xs leads a = absurd leads
-  now_due_more over due p x xs leads a = absurd leads
+      go xs = grind (arith, yes)
+  now_due_more k l p x xs leads a = grind arith
 
   in_time : {place : ℕ} {w : List ℤ} (before after : List Moment) (x : Moment) (h : Ready place w) →
       Run (means s) place w (before ++ x ∷ after) → emits x ≡ now_due h.k before
@@ -160,21 +153,21 @@ module _ (s : Staircase) where
       in_time bs after x (later b n) r.3 ∙ now_due_more h.k n.later n.q b bs n.leads n.at
 
   -- the result is the last line
-  stops : (k : Stage) {place : ℕ} {w : List ℤ} (p : Progress) (xs : List Moment) → IsOver k → At s k place w p → Run (means s) place w xs →
-      AllByRecursion (λ y. (y.outcome.write ≡ None) × (y.outcome.request ≡ Stop)) xs
-  stops k p [] l a r = tt
+  stops : (k : Stage) {place : ℕ} {w : List ℤ} (p : Course) (xs : List Moment) → IsOver k → At s k place w p → Run (means s) place w xs →
+      All OnlyStops xs
+  stops k p [] l a r = All-nil OnlyStops
   stops going p (x ∷ xs) l a r = absurd l
   stops due p (x ∷ xs) l a r = absurd l
   stops over p (x ∷ xs) l a r =
       let n = step s over p x a r.0 r.2 in
-      ((ap (λ o. o.write) n.ends, ap (λ o. o.request) n.ends), stops n.later n.q xs n.leads n.at r.3)
+      All-cons OnlyStops x xs (ap (λ o. o.write) n.ends, ap (λ o. o.request) n.ends) (stops n.later n.q xs n.leads n.at r.3)
 
   IsResult : List Moment → Moment → ℤ → Type 0
   IsResult after x v =
       (v ≡ line_in x.work) × (x.outcome.write ≡ Some (record { cell = s.result_cell; value = v }))
-      × AllByRecursion (λ y. (y.outcome.write ≡ None) × (y.outcome.request ≡ Stop)) after
+      × All OnlyStops after
 
-  result_here : (k : Stage) (p : Progress) (x : Moment) (v : ℤ) (after : List Moment) → is_due k ≡ true → x.work ≡ work_of p →
+  result_here : (k : Stage) (p : Course) (x : Moment) (v : ℤ) (after : List Moment) → is_due k ≡ true → x.work ≡ work_of p →
       Next s k p x → Run (means s) x.outcome.place x.outcome.work after → x.outcome.request ≡ Emit v → IsResult after x v
   unfolding IsResult
   result_here going p x v after d i n r e = absurd (false≢true d)
@@ -196,16 +189,16 @@ module _ (s : Staircase) where
   result (b ∷ bs) after x v h r e = result bs after x v (later b (h.next b r.0 r.2)) r.3 e
 
   -- line and reversals are what the taps come to
-  record ComesTo (p : Progress) (taps : List Tap) (v : List ℤ) : Type 0 where
+  record ComesTo (p : Course) (taps : List Tap) (v : List ℤ) : Type 0 where
     line_comes : line_in v ≡ pos (line_then p taps)
     reversals_come : reversals_of v ≡ pos (reversals_then p taps)
 
-  comes_none : {w : List ℤ} (p : Progress) → w ≡ work_of p → Bounded 15 p → ComesTo p [] w
+  comes_none : {w : List ℤ} (p : Course) → w ≡ work_of p → Bounded 15 p → ComesTo p [] w
   comes_none p e b =
       let n = then_none p p.run refl b.short_run in
       record { line_comes = line_is p e ∙ ap pos (sym n.0); reversals_come = reversals_are p e ∙ ap pos (sym n.1) }
 
-  comes_more : (p q : Progress) (x : Moment) (taps : List Tap) (v : List ℤ) → Bounded 15 p → Judges x p q → ComesTo q taps v →
+  comes_more : (p q : Course) (x : Moment) (taps : List Tap) (v : List ℤ) → Bounded 15 p → Judges x p q → ComesTo q taps v →
       ComesTo p (tap_at x ++ taps) v
   comes_more p q x taps v b (keeps none e) c = rw (none, sym e) c
   comes_more p q x taps v b (judges t tap e) c =
@@ -213,7 +206,7 @@ module _ (s : Staircase) where
       let n = then_more t p p.run taps refl b.short_run in
       rw tap (record { line_comes = d.line_comes ∙ ap pos n.0; reversals_come = d.reversals_come ∙ ap pos n.1 })
 
-  comes : (k : Stage) (p : Progress) (x : Moment) (xs : List Moment) → Bounded 15 p → Next s k p x →
+  comes : (k : Stage) (p : Course) (x : Moment) (xs : List Moment) → Bounded 15 p → Next s k p x →
       Run (means s) x.outcome.place x.outcome.work xs → ComesTo p (taps_in (x ∷ xs)) (work_after x.outcome.work xs)
   comes k p x [] b n r = comes_more p n.q x _ _ b n.tap (comes_none n.q n.at.is n.at.fits)
   comes k p x (y ∷ ys) b n r =

@@ -9,10 +9,9 @@ use Rattle.model.specs.declared.threads.Request.TheVariants.{Receive, Stop}
 use Rattle.model.specs.Runs.{Moment}
 use Rattle.staircase.specs.declared.Staircase.{Staircase}
 use Rattle.staircase.specs.declared.phases.Phase.TheVariants.{Judge}
-use Rattle.staircase.specs.declared.progress.Progress.{Progress}
 use Rattle.staircase.specs.declared.taps.Tap.{Tap}
 use Rattle.staircase.specs.Taps.{tap_in}
-use Rattle.staircase.specs.Progress.{Bounded, work_of, judged}
+use Rattle.staircase.specs.Progress.{Course, Bounded, work_of, judged}
 use Rattle.staircase.specs.Steps.{means, does, begun, shown, answered, reported, start}
 use Rattle.staircase.specs.Laws.{tap_at, tap_handed, emits, is_emit}
 use Rattle.staircase.proofs.Judging.{progress_back, judged_climbs, judged_bounded}
@@ -43,7 +42,7 @@ Leads due k = IsOver k
 Leads over k = IsOver k
 
 -- a step keeps a progress, or judges the tap that it hears
-pub data Judges (x : Moment) (p q : Progress) : Type 0 where
+pub data Judges (x : Moment) (p q : Course) : Type 0 where
   keeps : tap_at x ≡ [] → q ≡ p → Judges x p q
   judges : (t : Tap) → tap_at x ≡ t ∷ [] → q ≡ judged t p → Judges x p q
 
@@ -59,26 +58,26 @@ module _ (s : Staircase) where
   Counted over reversals = reversals ≡ s.wanted_reversals
 
   -- where a thread stands after its first step
-  pub record At (k : Stage) (place : ℕ) (w : List ℤ) (p : Progress) : Type 0 where
+  pub record At (k : Stage) (place : ℕ) (w : List ℤ) (p : Course) : Type 0 where
     pub here : Placed k place
     pub is : w ≡ work_of p
     pub fits : Bounded 15 p
     pub count : Counted k p.reversals
 
-  abbrev pub stopped : Progress → Outcome
+  abbrev pub stopped : Course → Outcome
   stopped p = record { place = 4; work = work_of p; write = None; request = Stop }
 
   -- what comes of a step once no tap is wanted
-  abbrev pub Ends : Stage → Progress → Outcome → Type 0
+  abbrev pub Ends : Stage → Course → Outcome → Type 0
   Ends going p o = Unit {0}
   Ends due p o = o ≡ reported s p (work_of p)
   Ends over p o = o ≡ stopped p
 
   -- what the step of a moment does
-  pub record Next (k : Stage) (p : Progress) (x : Moment) : Type 0 where
+  pub record Next (k : Stage) (p : Course) (x : Moment) : Type 0 where
     pub later : Stage
     pub leads : Leads k later
-    pub q : Progress
+    pub q : Course
     pub tap : Judges x p q
     pub at : At later x.outcome.place x.outcome.work q
     pub emitting : emits x ≡ is_due k
@@ -92,17 +91,17 @@ module _ (s : Staircase) where
       means s place w cells a ≡ r → means s at v cells a ≡ r
   stands {place} {at} {w} cells a h i e = ap (λ k. means s at k cells a) (sym i) ∙ ap (λ n. means s n w cells a) (sym h) ∙ e
 
-  pub at_show : (p : Progress) (cells : List ℤ) (a : Answer) → Bounded 15 p → means s 1 (work_of p) cells a ≡ Ok (shown s p (work_of p))
+  pub at_show : (p : Course) (cells : List ℤ) (a : Answer) → Bounded 15 p → means s 1 (work_of p) cells a ≡ Ok (shown s p (work_of p))
   at_show p cells a b = let e = progress_back p b in simp e
 
-  pub at_judge : (p : Progress) (cells : List ℤ) (a : Answer) → Bounded 15 p → means s 2 (work_of p) cells a ≡ does s (work_of p) (Judge p) a
+  pub at_judge : (p : Course) (cells : List ℤ) (a : Answer) → Bounded 15 p → means s 2 (work_of p) cells a ≡ does s (work_of p) (Judge p) a
   at_judge p cells a b = let e = progress_back p b in simp e
 
-  pub at_report : (p : Progress) (cells : List ℤ) (a : Answer) → Bounded 15 p → means s 3 (work_of p) cells a ≡ Ok (reported s p (work_of p))
+  pub at_report : (p : Course) (cells : List ℤ) (a : Answer) → Bounded 15 p → means s 3 (work_of p) cells a ≡ Ok (reported s p (work_of p))
   at_report p cells a b = let e = progress_back p b in simp e
 
   -- a step without a tap, to an outcome that is known
-  kept : (k later : Stage) (p : Progress) (x : Moment) (o : Outcome) → x.outcome ≡ o → Leads k later → tap_at x ≡ [] →
+  kept : (k later : Stage) (p : Course) (x : Moment) (o : Outcome) → x.outcome ≡ o → Leads k later → tap_at x ≡ [] →
       is_emit o.request ≡ is_due k → Ends k p o → At later o.place o.work p → Next k p x
   kept k later p x o e leads none emit ends at =
       record {
@@ -116,13 +115,13 @@ module _ (s : Staircase) where
       }
 
   -- while reversals are wanted a tap keeps the ranges
-  pub judged_fits : (p : Progress) (t : Tap) → Bounded 15 p → p.reversals < s.wanted_reversals → Bounded 15 (judged t p)
+  pub judged_fits : (p : Course) (t : Tap) → Bounded 15 p → p.reversals < s.wanted_reversals → Bounded 15 (judged t p)
   judged_fits p t b l =
       let few : p.reversals ≤ 14 = omega (arith, s.few_wanted) in
       judged_bounded t 14 p (record { line_exists = b.line_exists; short_run = b.short_run; few = few })
 
   -- a step that judges a tap
-  answers : (p : Progress) (x : Moment) (t : Tap) → Bounded 15 p → p.reversals < s.wanted_reversals → tap_at x ≡ t ∷ [] →
+  answers : (p : Course) (x : Moment) (t : Tap) → Bounded 15 p → p.reversals < s.wanted_reversals → tap_at x ≡ t ∷ [] →
       x.outcome ≡ answered s p t → Next going p x
   answers p x t b l tap e = go (leb s.wanted_reversals (judged t p).reversals) refl
     where
@@ -145,7 +144,7 @@ module _ (s : Staircase) where
           (elim (judged_climbs t p) [ inl c ↦ omega arith | inr c ↦ omega arith ])
       go false y = next going tt (inl (ap (λ o. o.place) e ∙ simp y)) (leb-false _ _ y)
 
-  hears : (p : Progress) (x : Moment) → Bounded 15 p → p.reversals < s.wanted_reversals → x.place ≡ 2 →
+  hears : (p : Course) (x : Moment) → Bounded 15 p → p.reversals < s.wanted_reversals → x.place ≡ 2 →
       does s (work_of p) (Judge p) x.answer ≡ Ok x.outcome → Next going p x
   hears p x b l at e = go x.answer refl e
     where
@@ -174,7 +173,7 @@ module _ (s : Staircase) where
       kept going going (start s) x (begun s) (cc) tt (no_tap_at x 0 at (λ z. omega arith)) refl tt
       (record { here = inl refl; is = refl; fits = start_bounded; count = s.some_wanted })
 
-  pub step : (k : Stage) {place : ℕ} {w : List ℤ} (p : Progress) (x : Moment) → At k place w p → x.place ≡ place →
+  pub step : (k : Stage) {place : ℕ} {w : List ℤ} (p : Course) (x : Moment) → At k place w p → x.place ≡ place →
       means s place w x.cells x.answer ≡ Ok x.outcome → Next k p x
   step going p x a at e = elim a.here [
     | inl h ↦

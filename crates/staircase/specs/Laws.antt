@@ -1,6 +1,6 @@
 -- The laws of a staircase, over every run of a thread that starts at place 0, whatever cells and answers it is handed.
-use Rattle.std.specs.Prelude.{◌≡◌, Bool, true, false, cond, not, ◌&&◌, ◌⊎◌, List, [], ◌∷◌, ◌++◌, ℤ, pos, ◌+ℤ◌, ◌≤ℤ◌, ◌<ℤ◌, Some, None, Ok, Err, Result, ◌==◌, int_le, slice_index_or}
-use Rattle.std.specs.List.{AllByRecursion}
+use Rattle.std.specs.Prelude.{◌≡◌, Bool, true, false, if◌then◌else◌, not, ◌&&◌, ◌⊎◌, List, [], ◌∷◌, ◌++◌, ℤ, pos, ◌+ℤ◌, ◌≤ℤ◌, ◌<ℤ◌, Some, None, Ok, Err, Result, ◌==◌, int_le, slice_index_or}
+use Rattle.std.specs.List.{All}
 use Rattle.model.specs.declared.faults.Fault.{Fault}
 use Rattle.model.specs.declared.threads.Answer.{Answer}
 use Rattle.model.specs.declared.threads.Answer.TheVariants.{Done, Got, Fork}
@@ -31,7 +31,7 @@ tap_handed (Got v) = tapped (tap_in v)
 tap_handed (Fork f) = []
 
 abbrev pub tap_at : Moment → List Tap
-tap_at x = cond (x.place == 2) (tap_handed x.answer) []
+tap_at x = if x.place == 2 then tap_handed x.answer else []
 
 abbrev pub taps_in : List Moment → List Tap
 taps_in [] = []
@@ -65,6 +65,14 @@ Climbs x y =
     (reversals_of y.outcome.work ≡ reversals_of x.outcome.work)
     ⊎ ((reversals_of y.outcome.work ≡ reversals_of x.outcome.work +ℤ pos 1) × (tap : Tap) × (tap_at y ≡ tap ∷ []))
 
+-- a moment that leaves the line on the chart
+abbrev pub OnChart : Moment → Type 0
+OnChart x = (pos 0 ≤ℤ line_in x.outcome.work) × (line_in x.outcome.work ≤ℤ pos 13)
+
+-- a moment that writes nothing and stops
+abbrev pub OnlyStops : Moment → Type 0
+OnlyStops x = (x.outcome.write ≡ None) × (x.outcome.request ≡ Stop)
+
 module _ (s : Staircase) where
   -- the run of a thread that starts
   abbrev pub Runs : List Moment → Type 0
@@ -72,8 +80,7 @@ module _ (s : Staircase) where
 
   -- the line never leaves the chart
   abbrev pub LineStays : Type 0
-  LineStays = (xs : List Moment) → Runs xs →
-      AllByRecursion (λ x. (pos 0 ≤ℤ line_in x.outcome.work) × (line_in x.outcome.work ≤ℤ pos 13)) xs
+  LineStays = (xs : List Moment) → Runs xs → All OnChart xs
 
   -- the reversals never fall, and rise by at most one for each tap
   abbrev pub ReversalsClimb : Type 0
@@ -88,7 +95,7 @@ module _ (s : Staircase) where
   ResultIsLastLine = (before after : List Moment) (x : Moment) (v : ℤ) → Runs (before ++ x ∷ after) →
       x.outcome.request ≡ Emit v →
       (v ≡ line_in x.work) × (x.outcome.write ≡ Some (record { cell = s.result_cell; value = v }))
-      × AllByRecursion (λ y. (y.outcome.write ≡ None) × (y.outcome.request ≡ Stop)) after
+      × All OnlyStops after
 
   -- line and reversals are what the taps so far come to
   abbrev pub TapsDecide : Type 0

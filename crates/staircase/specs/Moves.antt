@@ -1,7 +1,7 @@
 -- What a list of taps comes to, told without the machine.
 use Rattle.std.specs.Prelude.{ℕ, ◌+◌, List, [], ◌∷◌, Some, None, Option}
-use Rattle.staircase.specs.declared.progress.Direction.{Direction}
-use Rattle.staircase.specs.declared.progress.Direction.TheVariants.{ToSmaller, ToLarger}
+use Rattle.staircase.specs.declared.directions.Direction.{Direction}
+use Rattle.staircase.specs.declared.directions.Direction.TheVariants.{ToSmaller, ToLarger}
 use Rattle.staircase.specs.declared.taps.Tap.{Tap}
 use Rattle.staircase.specs.declared.taps.Tap.TheVariants.{Seen, NotSeen}
 use Rattle.staircase.specs.Progress.{next_line, reversal}

@@ -1,20 +1,26 @@
 -- The four work numbers of a staircase's thread, and what a tap makes of them.
-use Rattle.std.specs.Prelude.{ℕ, zero, suc, ◌+◌, ◌-◌, ◌≤◌, min, cond, List, [], ◌∷◌, ℤ, pos, negsuc, Some, None, Ok, Err, Option, Result, ◌==◌, nat_le, slice_index_or}
+use Rattle.std.specs.Prelude.{ℕ, zero, suc, ◌+◌, ◌-◌, ◌≤◌, min, if◌then◌else◌, List, [], ◌∷◌, ℤ, pos, negsuc, Some, None, Ok, Err, Option, Result, ◌==◌, nat_le, slice_index_or}
 use Rattle.model.specs.declared.faults.Fault.{Fault}
 use Rattle.model.specs.declared.faults.Cause.TheVariants.{NumbersOutOfRange}
 use Rattle.model.specs.declared.faults.Layer.TheVariants.{Machine}
 use Rattle.model.specs.Faults.{fault}
-use Rattle.staircase.specs.declared.progress.Direction.{Direction}
-use Rattle.staircase.specs.declared.progress.Direction.TheVariants.{ToSmaller, ToLarger}
-use Rattle.staircase.specs.declared.progress.Progress.{Progress}
+use Rattle.staircase.specs.declared.directions.Direction.{Direction}
+use Rattle.staircase.specs.declared.directions.Direction.TheVariants.{ToSmaller, ToLarger}
 use Rattle.staircase.specs.declared.taps.Tap.{Tap}
 use Rattle.staircase.specs.declared.taps.Tap.TheVariants.{Seen, NotSeen}
 
-abbrev pub progress : ℕ → ℕ → ℕ → Option Direction → Progress
+-- How far a measurement has come. The code's `Progress` is seen as this, and keeps the ranges of `Bounded`.
+pub record Course : Type 0 where
+  pub line : ℕ
+  pub run : ℕ
+  pub reversals : ℕ
+  pub last_move : Option Direction
+
+abbrev pub progress : ℕ → ℕ → ℕ → Option Direction → Course
 progress line run reversals last = record { line = line; run = run; reversals = reversals; last_move = last }
 
 -- the ranges, with the most reversals that there may be
-pub record Bounded (most : ℕ) (p : Progress) : Type 0 where
+pub record Bounded (most : ℕ) (p : Course) : Type 0 where
   pub line_exists : p.line ≤ 13
   pub short_run : p.run ≤ 1
   pub few : p.reversals ≤ most
@@ -24,7 +30,7 @@ out_of_range = fault NumbersOutOfRange Machine 0
 
 -- a number from 0 to the most that is allowed
 abbrev pub up_to : ℕ → ℤ → Result ℕ Fault
-up_to most (pos n) = cond (nat_le n most) (Ok n) (Err out_of_range)
+up_to most (pos n) = if nat_le n most then Ok n else Err out_of_range
 up_to most (negsuc n) = Err out_of_range
 
 -- the last move as a number: 1 to smaller letters, −1 to larger ones, 0 before the first move
@@ -33,6 +39,11 @@ last_number None = pos 0
 last_number (Some ToSmaller) = pos 1
 last_number (Some ToLarger) = negsuc 0
 
+-- a direction as a number: 1 to smaller letters, −1 to larger ones
+abbrev pub direction_in : ℤ → Result Direction Fault
+direction_in (pos n) = if n == 1 then Ok ToSmaller else Err out_of_range
+direction_in (negsuc n) = if n == 0 then Ok ToLarger else Err out_of_range
+
 abbrev pub last_move_in : ℤ → Result (Option Direction) Fault
 last_move_in (pos zero) = Ok None
 last_move_in (pos (suc zero)) = Ok (Some ToSmaller)
@@ -40,20 +51,20 @@ last_move_in (pos (suc (suc n))) = Err out_of_range
 last_move_in (negsuc zero) = Ok (Some ToLarger)
 last_move_in (negsuc (suc n)) = Err out_of_range
 
-abbrev then : {X Y : Type 0} → Result X Fault → (X → Result Y Fault) → Result Y Fault
-then (Ok x) f = f x
-then (Err e) f = Err e
+abbrev and_then : {X Y : Type 0} → Result X Fault → (X → Result Y Fault) → Result Y Fault
+and_then (Ok x) f = f x
+and_then (Err e) f = Err e
 
 -- the numbers in the order in which a thread keeps them
-abbrev pub progress_in : List ℤ → Result Progress Fault
+abbrev pub progress_in : List ℤ → Result Course Fault
 progress_in w =
-    then (up_to 13 (slice_index_or w 0 (pos 0))) (λ line.
-    then (up_to 1 (slice_index_or w 1 (pos 0))) (λ run.
-    then (up_to 15 (slice_index_or w 2 (pos 0))) (λ reversals.
-    then (last_move_in (slice_index_or w 3 (pos 0))) (λ last.
+    and_then (up_to 13 (slice_index_or w 0 (pos 0))) (λ line.
+    and_then (up_to 1 (slice_index_or w 1 (pos 0))) (λ run.
+    and_then (up_to 15 (slice_index_or w 2 (pos 0))) (λ reversals.
+    and_then (last_move_in (slice_index_or w 3 (pos 0))) (λ last.
     Ok (progress line run reversals last)))))
 
-abbrev pub work_of : Progress → List ℤ
+abbrev pub work_of : Course → List ℤ
 work_of p = pos p.line ∷ pos p.run ∷ pos p.reversals ∷ last_number p.last_move ∷ []
 
 -- the next line that way, or the same one where the lines end (`-` stops at 0)
@@ -69,11 +80,11 @@ reversal (Some ToSmaller) ToSmaller = 0
 reversal (Some ToLarger) ToLarger = 0
 reversal None d = 0
 
-abbrev pub moved : Direction → Progress → Progress
+abbrev pub moved : Direction → Course → Course
 moved d p = progress (next_line d p.line) 0 (p.reversals + reversal p.last_move d) (Some d)
 
 -- not seen: a move to larger letters. Seen twice in a row: a move to smaller ones
-abbrev pub judged : Tap → Progress → Progress
+abbrev pub judged : Tap → Course → Course
 judged NotSeen p = moved ToLarger p
 judged Seen p =
-    cond (p.run + 1 == 2) (moved ToSmaller p) (progress p.line (p.run + 1) p.reversals p.last_move)
+    if p.run + 1 == 2 then moved ToSmaller p else progress p.line (p.run + 1) p.reversals p.last_move

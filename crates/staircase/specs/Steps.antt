@@ -1,5 +1,5 @@
 -- The staircase as a machine: what its thread does in each phase.
-use Rattle.std.specs.Prelude.{ℕ, cond, List, ℤ, pos, Some, None, Ok, Err, Option, Result, nat_le}
+use Rattle.std.specs.Prelude.{ℕ, if◌then◌else◌, List, ℤ, pos, Some, None, Ok, Err, Option, Result, nat_le}
 use Rattle.model.specs.declared.faults.Fault.{Fault}
 use Rattle.model.specs.declared.threads.Answer.{Answer}
 use Rattle.model.specs.declared.threads.Answer.TheVariants.{Done, Got, Fork}
@@ -9,12 +9,11 @@ use Rattle.model.specs.declared.threads.Request.{Request}
 use Rattle.model.specs.declared.threads.Request.TheVariants.{GoOn, Receive, Emit, Stop}
 use Rattle.model.specs.Machines.{Meaning}
 use Rattle.staircase.specs.declared.Staircase.{Staircase}
-use Rattle.staircase.specs.declared.progress.Progress.{Progress}
 use Rattle.staircase.specs.declared.phases.Phase.{Phase}
 use Rattle.staircase.specs.declared.phases.Phase.TheVariants.{Begin, Show, Judge, Report, End}
 use Rattle.staircase.specs.declared.taps.Tap.{Tap}
 use Rattle.staircase.specs.Taps.{tap_in}
-use Rattle.staircase.specs.Progress.{progress, work_of, judged}
+use Rattle.staircase.specs.Progress.{Course, progress, work_of, judged}
 use Rattle.staircase.specs.Phases.{phase_at}
 
 -- where the thread then stands, with which numbers, what it writes and what it asks for
@@ -25,24 +24,24 @@ abbrev writes : ℕ → ℕ → Option CellWrite
 writes cell line = Some (record { cell = cell; value = pos line })
 
 -- a measurement begins at the start line
-abbrev pub start : Staircase → Progress
+abbrev pub start : Staircase → Course
 start s = progress s.start_line 0 0 None
 
 abbrev pub begun : Staircase → Outcome
 begun s = outcome 1 (work_of (start s)) None GoOn
 
-abbrev pub shown : Staircase → Progress → List ℤ → Outcome
+abbrev pub shown : Staircase → Course → List ℤ → Outcome
 shown s p w = outcome 2 w (writes s.show_cell p.line) Receive
 
 -- enough reversals: to the report; else the next line is shown
-abbrev pub answered : Staircase → Progress → Tap → Outcome
+abbrev pub answered : Staircase → Course → Tap → Outcome
 answered s p tap =
-    let q = judged tap p in outcome (cond (nat_le s.wanted_reversals q.reversals) 3 1) (work_of q) None GoOn
+    let q = judged tap p in outcome (if nat_le s.wanted_reversals q.reversals then 3 else 1) (work_of q) None GoOn
 
-abbrev pub reported : Staircase → Progress → List ℤ → Outcome
+abbrev pub reported : Staircase → Course → List ℤ → Outcome
 reported s p w = outcome 4 w (writes s.result_cell p.line) (Emit (pos p.line))
 
-abbrev heard : Staircase → Progress → Result Tap Fault → Result Outcome Fault
+abbrev heard : Staircase → Course → Result Tap Fault → Result Outcome Fault
 heard s p (Ok tap) = Ok (answered s p tap)
 heard s p (Err f) = Err f
 

@@ -1,20 +1,18 @@
-ghost use Rattle.std.specs.Prelude.{◌≡◌, ◌≤◌, IfOk};
-ghost use Rattle.staircase.specs.Progress.{Bounded, out_of_range, up_to, last_move_in, last_number, progress_in, work_of, next_line, reversal, moved, judged};
+ghost use Rattle.std.specs.Prelude.{◌≡◌, ◌≤◌};
+ghost use Rattle.staircase.specs.Progress.{out_of_range, up_to, progress_in, work_of, moved, judged};
 
+use crate::directions::Direction;
 use crate::taps::Tap;
 use crate::{LAST_LINE, MOST_REVERSALS};
 use model::faults::{Cause, Fault, Layer};
+use std::marker::Model;
 
-/// Which way a move goes along the lines of letters.
-#[derive(Clone, Copy)]
-pub enum Direction {
-    ToSmaller,
-    ToLarger,
-}
+/// The most reversals after a tap: it may add one.
+const MOST_AFTER_TAP: u32 = MOST_REVERSALS + 1;
 
-/// How far a measurement has come: the thread's four work numbers, in their ranges.
+/// How far a measurement has come: the thread's four work numbers, in their ranges, with at most `MOST` reversals.
 #[derive(Clone, Copy)]
-pub struct Progress {
+pub struct Progress<const MOST: u32> {
     /// The line that is tried, from 0, the largest letters, to 13, the smallest.
     pub line: u32,
     /// How many lines in a row were seen since the last move: 0 or 1.
@@ -24,7 +22,19 @@ pub struct Progress {
     pub last_move: Option<Direction>,
 }
 
-fn out_of_range() -> Fault
+impl<const MOST: u32> Model for Progress<MOST> {
+    ghost use Rattle.staircase.specs.Progress.{Course, Bounded, progress};
+
+    ghost Value = { Course };
+
+    ghost view = { λ p. progress p.line p.run p.reversals p.last_move };
+
+    ghost invariant = { λ p. Bounded MOST (progress p.line p.run p.reversals p.last_move) };
+
+    ghost inverse = { λ c. record { line = c.line; run = c.run; reversals = c.reversals; last_move = c.last_move } };
+}
+
+pub(crate) fn out_of_range() -> Fault
     ensures { result ≡ out_of_range }
 {
     Fault::new(Cause::NumbersOutOfRange, Layer::Machine, 0)
@@ -41,61 +51,20 @@ fn number_up_to(most: u32, number: i32) -> Result<u32, Fault>
     }
 }
 
-impl Direction {
-    /// The last move that a work number stands for: none, 1 to smaller letters, -1 to larger ones.
-    fn of_number(number: i32) -> Result<Option<Direction>, Fault>
-        ensures { result ≡ last_move_in number }
-    {
-        match number {
-            0 => Ok(None),
-            1 => Ok(Some(Direction::ToSmaller)),
-            -1 => Ok(Some(Direction::ToLarger)),
-            _ => Err(out_of_range()),
-        }
-    }
+/// The progress that work numbers stand for, or a fault where one is out of its range.
+impl TryFrom<[i32; 4]> for Progress<MOST_REVERSALS> {
+    type Error = Fault;
 
-    fn number(last_move: Option<Direction>) -> i32
-        ensures { result ≡ last_number last_move }
-    {
-        match last_move {
-            None => 0,
-            Some(Direction::ToSmaller) => 1,
-            Some(Direction::ToLarger) => -1,
-        }
-    }
+    ghost try_from_gives = { λ work progress. progress ≡ progress_in work };
 
-    fn next_line(self, line: u32) -> u32
-        requires { line ≤ 13 }
-        ensures { result ≡ next_line self line }
-    {
-        match self {
-            Direction::ToSmaller => (line + 1).min(LAST_LINE),
-            Direction::ToLarger => line.saturating_sub(1),
-        }
-    }
-
-    /// 1 where a move goes the other way than the last one, else 0.
-    fn reversal(self, last_move: Option<Direction>) -> u32
-        ensures { result ≡ reversal last_move self }
-    {
-        match (last_move, self) {
-            (Some(Direction::ToSmaller), Direction::ToLarger)
-            | (Some(Direction::ToLarger), Direction::ToSmaller) => 1,
-            _ => 0,
-        }
-    }
-}
-
-impl Progress {
-    /// The progress that work numbers stand for, or a fault where one is out of its range.
-    pub(crate) fn of_work(work: &[i32; 4]) -> Result<Progress, Fault>
-        ensures value { result ≡ progress_in work.now }
-        ensures bound { IfOk result (λ p. Bounded 15 p) }
-    {
+    fn try_from(work: [i32; 4]) -> Result<Progress<MOST_REVERSALS>, Fault> {
         let line = number_up_to(LAST_LINE, work[0])?;
         let run = number_up_to(1, work[1])?;
         let reversals = number_up_to(MOST_REVERSALS, work[2])?;
-        let last_move = Direction::of_number(work[3])?;
+        let last_move = match work[3] {
+            0 => None,
+            number => Some(Direction::try_from(number)?),
+        };
         Ok(Progress {
             line,
             run,
@@ -103,23 +72,24 @@ impl Progress {
             last_move,
         })
     }
+}
 
-    pub(crate) fn work(self) -> [i32; 4]
-        requires { Bounded 16 self }
-        ensures { result ≡ work_of self }
-    {
+impl From<Progress<MOST_AFTER_TAP>> for [i32; 4] {
+    ghost from_gives = { λ progress work. work ≡ work_of progress };
+
+    fn from(progress: Progress<MOST_AFTER_TAP>) -> [i32; 4] {
         [
-            self.line as i32,
-            self.run as i32,
-            self.reversals as i32,
-            Direction::number(self.last_move),
+            progress.line as i32,
+            progress.run as i32,
+            progress.reversals as i32,
+            progress.last_move.map_or(0, |direction| direction as i32),
         ]
     }
+}
 
-    fn move_to(self, direction: Direction) -> Progress
-        requires { Bounded 15 self }
-        ensures value { result ≡ moved direction self }
-        ensures bound { Bounded 16 result }
+impl Progress<MOST_REVERSALS> {
+    fn move_to(self, direction: Direction) -> Progress<MOST_AFTER_TAP>
+        ensures { result ≡ moved direction self }
     {
         Progress {
             line: direction.next_line(self.line),
@@ -130,10 +100,8 @@ impl Progress {
     }
 
     /// The progress after a tap.
-    pub(crate) fn judge(self, tap: Tap) -> Progress
-        requires { Bounded 15 self }
-        ensures value { result ≡ judged tap self }
-        ensures bound { Bounded 16 result }
+    pub(crate) fn judge(self, tap: Tap) -> Progress<MOST_AFTER_TAP>
+        ensures { result ≡ judged tap self }
     {
         match tap {
             Tap::NotSeen => self.move_to(Direction::ToLarger),
@@ -142,7 +110,12 @@ impl Progress {
                 if run == 2 {
                     self.move_to(Direction::ToSmaller)
                 } else {
-                    Progress { run, ..self }
+                    Progress {
+                        line: self.line,
+                        run,
+                        reversals: self.reversals,
+                        last_move: self.last_move,
+                    }
                 }
             }
         }

@@ -1,11 +1,11 @@
 ghost use Rattle.std.specs.Prelude.{◌≡◌, ◌==◌};
-ghost use Rattle.staircase.specs.Progress.{Bounded};
 ghost use Rattle.staircase.specs.Steps.{means, begun, shown, answered, reported};
 
-use crate::Staircase;
 use crate::phases::Phase;
+use crate::places::Place;
 use crate::progress::Progress;
 use crate::taps::Tap;
+use crate::{MOST_REVERSALS, Staircase};
 use model::faults::Fault;
 use model::machines::Machine;
 use model::sides::CELLS;
@@ -22,19 +22,18 @@ impl Staircase {
             last_move: None,
         };
         Outcome {
-            place: 1,
-            work: start.work(),
+            place: Place::Show as u16,
+            work: start.into(),
             write: None,
             request: Request::GoOn,
         }
     }
 
-    fn show(&self, progress: Progress, work: &[i32; 4]) -> Outcome
-        requires { Bounded 15 progress }
+    fn show(&self, progress: Progress<MOST_REVERSALS>, work: &[i32; 4]) -> Outcome
         ensures { result ≡ shown self.now progress work.now }
     {
         Outcome {
-            place: 2,
+            place: Place::Judge as u16,
             work: *work,
             write: Some(CellWrite {
                 cell: self.show_cell,
@@ -44,31 +43,29 @@ impl Staircase {
         }
     }
 
-    fn judge(&self, progress: Progress, tap: Tap) -> Outcome
-        requires { Bounded 15 progress }
+    fn judge(&self, progress: Progress<MOST_REVERSALS>, tap: Tap) -> Outcome
         ensures { result ≡ answered self.now progress tap }
     {
         let judged = progress.judge(tap);
         let place = if judged.reversals >= self.wanted_reversals {
-            3
+            Place::Report
         } else {
-            1
+            Place::Show
         };
         Outcome {
-            place,
-            work: judged.work(),
+            place: place as u16,
+            work: judged.into(),
             write: None,
             request: Request::GoOn,
         }
     }
 
-    fn report(&self, progress: Progress, work: &[i32; 4]) -> Outcome
-        requires { Bounded 15 progress }
+    fn report(&self, progress: Progress<MOST_REVERSALS>, work: &[i32; 4]) -> Outcome
         ensures { result ≡ reported self.now progress work.now }
     {
         let line = progress.line as i32;
         Outcome {
-            place: 4,
+            place: Place::End as u16,
             work: *work,
             write: Some(CellWrite {
                 cell: self.result_cell,
@@ -97,15 +94,17 @@ impl Machine for Staircase {
             write: None,
             request: Request::Receive,
         };
-        match (Phase::at(place, work)?, answer) {
+        let phase = Phase::at(place, *work)?;
+        // One match and no table of steps: by the rules a step hangs on place and answer together, and the compiler sees that each is met.
+        match (&phase, answer) {
             (Phase::Begin, _) => Ok(self.begin()),
-            (Phase::Show(progress), _) => Ok(self.show(progress, work)),
+            (Phase::Show(progress), _) => Ok(self.show(*progress, work)),
             (Phase::Judge(progress), Answer::Got(message)) => Ok(self.judge(
-                progress,
-                Tap::of_message(message)?,
+                *progress,
+                Tap::try_from(message)?,
             )),
             (Phase::Judge(_), _) => Ok(kept),
-            (Phase::Report(progress), _) => Ok(self.report(progress, work)),
+            (Phase::Report(progress), _) => Ok(self.report(*progress, work)),
             (Phase::End, _) => Ok(Outcome {
                 request: Request::Stop,
                 ..kept
@@ -114,6 +113,6 @@ impl Machine for Staircase {
     }
 
     fn admits(&self, place: u16) -> bool {
-        place == 0
+        place == Place::Begin as u16
     }
 }

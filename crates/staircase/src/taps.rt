@@ -10,23 +10,27 @@ pub enum Tap {
     NotSeen,
 }
 
-impl Tap {
-    /// The tap that a message stands for, or a fault where it stands for none.
-    pub fn of_message(message: i32) -> Result<Tap, Fault>
-        ensures { result ≡ tap_in message }
-    {
+/// The tap that a message stands for, or a fault where it stands for none.
+impl TryFrom<i32> for Tap {
+    type Error = Fault;
+
+    ghost try_from_gives = { λ message tap. tap ≡ tap_in message };
+
+    fn try_from(message: i32) -> Result<Tap, Fault> {
         match message {
             1 => Ok(Tap::Seen),
             0 => Ok(Tap::NotSeen),
             _ => Err(Fault::new(Cause::NotATap, Layer::Machine, 0)),
         }
     }
+}
 
-    /// The message that stands for the tap.
-    pub fn message(self) -> i32
-        ensures { result ≡ message_of self }
-    {
-        match self {
+/// The message that stands for the tap.
+impl From<Tap> for i32 {
+    ghost from_gives = { λ tap message. message ≡ message_of tap };
+
+    fn from(tap: Tap) -> i32 {
+        match tap {
             Tap::Seen => 1,
             Tap::NotSeen => 0,
         }

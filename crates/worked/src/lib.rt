@@ -2,20 +2,14 @@
 #![tactic(auto)]
 
 ghost use Rattle.std.specs.Prelude.{◌≡◌, length};
-ghost use Rattle.std.specs.List.{AllByRecursion};
+ghost use Rattle.std.specs.List.{All};
 ghost use Rattle.worked.specs.Table.{Holds, table};
-
-/// Every case of the table holds.
-fn cases_hold()
-    ensures { AllByRecursion Holds table }
-{}
 
 /// How many worked cases the table has. All of them hold.
 pub fn worked_cases() -> usize
     ensures count { result ≡ length table }
-    ensures hold { AllByRecursion Holds table }
+    ensures hold { All Holds table }
 {
-    cases_hold();
     2
 }
 

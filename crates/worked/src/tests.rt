@@ -64,13 +64,11 @@ fn a_line_keeps_what_follows_it(rt: HostRuntime) {
 
 /// Cause, layer and node of the fault that a step ends in.
 fn fault_of(place: u16, work: [i32; 4], answer: Answer) -> Option<(u8, u8, u8)> {
-    let Ok(staircase) = Staircase::new(5, 2, 0, 1) else {
-        return None;
-    };
-    match staircase.step(place, &work, &[0; 64], answer) {
-        Ok(_) => None,
-        Err(fault) => Some((fault.cause, fault.layer, fault.node)),
-    }
+    Staircase::new(5, 2, 0, 1)
+        .ok()?
+        .step(place, &work, &[0; 64], answer)
+        .err()
+        .map(|fault| (fault.cause, fault.layer, fault.node))
 }
 
 #[test]
@@ -85,10 +83,7 @@ fn faults_have_their_causes(rt: HostRuntime) {
 }
 
 fn complaint_about(start_line: &str, wanted_reversals: &str, label: &str) -> Option<Complaint> {
-    match Settings::read(start_line, wanted_reversals, label) {
-        Ok(_) => None,
-        Err(complaint) => Some(complaint),
-    }
+    Settings::read(start_line, wanted_reversals, label).err()
 }
 
 #[test]

@@ -5,5 +5,7 @@ use Rattle.measurement.proofs.running.show_and_hear.Given as goal
 
 abbrev pub invariant-loop-tap : goal.invariant-loop-tap
 invariant-loop-tap l =
-    Sits l.staircase l.taps l.tap-index l.thread
-    × (vec_items l.shown ≡ lines_before l.staircase.start_line l.taps l.tap-index)
+    record {
+      sits : Sits l.staircase l.taps l.tap-index l.thread;
+      lines : vec_items l.shown ≡ lines_before l.staircase.start_line l.taps l.tap-index;
+    }

@@ -1,0 +1,5 @@
+use Rattle.staircase.proofs.Lawful.{lawful}
+use Rattle.staircase.proofs.Staircase.new.Goals as goal
+
+pub returns-clause-lawful : goal.returns-clause-lawful
+returns-clause-lawful c = lawful _

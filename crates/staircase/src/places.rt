@@ -1,0 +1,31 @@
+ghost use Rattle.std.specs.Prelude.{◌≡◌};
+ghost use Rattle.staircase.specs.Phases.{place_in};
+
+use model::faults::{Cause, Fault, Layer};
+
+/// The places of a staircase's thread, numbered from 0.
+#[derive(Clone, Copy, PartialEq, Eq, Debug)]
+pub enum Place {
+    Begin,
+    Show,
+    Judge,
+    Report,
+    End,
+}
+
+impl TryFrom<u16> for Place {
+    type Error = Fault;
+
+    ghost try_from_gives = { λ number place. place ≡ place_in number };
+
+    fn try_from(number: u16) -> Result<Place, Fault> {
+        match number {
+            0 => Ok(Place::Begin),
+            1 => Ok(Place::Show),
+            2 => Ok(Place::Judge),
+            3 => Ok(Place::Report),
+            4 => Ok(Place::End),
+            _ => Err(Fault::new(Cause::NoSuchPlace, Layer::Machine, 0)),
+        }
+    }
+}
