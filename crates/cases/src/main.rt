@@ -24,6 +24,7 @@ fn print_shown(
 }
 
 fn main(rt: HostRuntime) -> anyhow::Result<()> {
+    let heap = rt.alloc();
     let proved = worked_cases();
     println!(rt; "worked cases proved: {proved}")?;
     let staircase = prepare(Settings {
@@ -31,11 +32,6 @@ fn main(rt: HostRuntime) -> anyhow::Result<()> {
         wanted_reversals: 2,
         label: 9,
     })?;
-    print_shown(&rt, rt.alloc(), &staircase, &[Tap::Seen, Tap::Seen])?;
-    print_shown(
-        &rt,
-        rt.alloc(),
-        &staircase,
-        &[Tap::Seen, Tap::Seen, Tap::NotSeen],
-    )
+    print_shown(&rt, heap, &staircase, &[Tap::Seen, Tap::Seen])?;
+    print_shown(&rt, heap, &staircase, &[Tap::Seen, Tap::Seen, Tap::NotSeen])
 }

@@ -9,6 +9,7 @@ pub trait LineForm {
     ghost line: { Self → List ℕ };
 
     /// Writes the line to the front of a buffer and answers its length. The bytes after it are kept. Refused where the buffer is shorter than the line.
+    // A lent buffer and a count: nothing here allocates.
     fn write_line(&self, out: &mut [u8]) -> Result<usize, Refusal>
         ensures { Written (line self.now) out.old out.new result };
 }

@@ -13,6 +13,7 @@ pub struct Reading {
 }
 
 /// The same line. That it can be read back is proved here.
+// Tried without it: behind `&self` the ranges of the fields are not known, and with `self` by value `write_line` no longer closes.
 fn readable(reading: Reading, line: [u8; 13]) -> [u8; 13]
     requires { line ≡ reading_line reading }
     ensures same { result ≡ line }

@@ -8,11 +8,11 @@ use measurement::running::{measure, prepare};
 use measurement::settings::Settings;
 use measurement::taps::add_tap;
 use staircase::taps::Tap;
-use std::env;
+use std::env::{self, Env};
 use std::io::{BufRead, BufReader};
 use std::process::ExitCode;
 
-fn read_settings(rt: &HostRuntime) -> anyhow::Result<Settings> {
+fn read_settings(rt: &(impl Env + Alloc)) -> anyhow::Result<Settings> {
     let mut arguments = env::args(rt)
         .map_err(|_| anyhow!("the arguments are not text"))?
         .skip(1);

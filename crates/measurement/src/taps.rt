@@ -4,7 +4,7 @@ use crate::complaints::Complaint;
 use staircase::taps::Tap;
 
 /// The tap that a line writes, if it writes one.
-// No `TryFrom`: neither bytes nor taps are types of this crate.
+// No `TryFrom`: it would have to stand beside `Tap`, and text belongs to the input and not to the machine.
 fn tap_on(line: &[u8]) -> Option<Tap>
     ensures { WrittenOn line.now result }
 {

@@ -8,9 +8,11 @@ use model::machines::Machine;
 use model::sides::CELLS;
 use model::threads::{Answer, CellWrite, Outcome, Request};
 use staircase::Staircase;
+use staircase::places::Place;
 use staircase::taps::Tap;
 
 /// A staircase's thread, alone with the cells that it writes.
+// Place and work numbers are no struct: see `Machine::step`.
 #[derive(Clone, Copy)]
 pub struct Thread {
     pub place: u16,
@@ -53,7 +55,7 @@ impl Thread {
         ensures { result ≡ stepped staircase.now Done (stepped staircase.now Done started) }
     {
         let mut thread = Thread {
-            place: 0,
+            place: Place::Begin as u16,
             work: [0; 4],
             cells: [0; CELLS],
         };

@@ -18,7 +18,7 @@ pub enum Layer {
 }
 
 /// Why a step has no outcome: a cause, the layer that it arose in, and the expression's node (0 in the other layers).
-// Bytes and no enums: by the rules each is a byte, so that a machine may have causes of its own.
+// Bytes, no enums and no `Option`: by the rules each of the three is a byte.
 #[derive(Clone, Copy, PartialEq, Eq, Debug)]
 pub struct Fault {
     pub cause: u8,

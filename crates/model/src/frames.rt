@@ -34,7 +34,7 @@ pub struct Frame {
 }
 
 /// A frame as the rules list it, field by field. What an event does not name is 0.
-// Numbers and no enums: the rules list these, and `Frame` is the same with enums.
+// Numbers, no enums and no `Option`: the rules list these, and `Frame` is the same with enums.
 #[derive(Clone, Copy, PartialEq, Eq, Debug)]
 pub struct Fields {
     pub side: u8,

@@ -14,7 +14,7 @@ pub trait Machine {
     ghost admitted: { Self → ℕ → Bool };
 
     /// The outcome of one step.
-    // Place and work numbers are no struct: each machine that is handed both takes them apart at once, the place for what is done and the numbers for how far it is.
+    // Place and work numbers are no struct: most steps change one of the two, and would update a struct within a struct.
     fn step(
         &self,
         place: u16,

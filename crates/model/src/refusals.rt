@@ -4,13 +4,13 @@ ghost use Rattle.model.specs.Refusals.{number_of, item_of};
 use std::error::Error;
 use std::fmt;
 
-/// Why a call was refused. A refused call changes nothing.
+/// Why a call was refused, with the numbers of the rules' list. A refused call changes nothing.
 #[derive(Clone, Copy, PartialEq, Eq, Debug)]
 pub enum Refusal {
     /// A staircase's start line, wanted reversals, show cell or result cell is out of range.
-    StaircaseOutOfRange,
+    StaircaseOutOfRange = 6,
     /// A buffer is shorter than the line that is to be written into it.
-    BufferTooShort,
+    BufferTooShort = 14,
 }
 
 /// The refusal's number in the rules' list.
@@ -18,15 +18,13 @@ impl From<Refusal> for u8 {
     ghost from_gives = { λ refusal number. number ≡ number_of refusal };
 
     fn from(refusal: Refusal) -> u8 {
-        match refusal {
-            Refusal::StaircaseOutOfRange => 6,
-            Refusal::BufferTooShort => 14,
-        }
+        refusal as u8
     }
 }
 
 impl Refusal {
     /// The item that the refusal is about, 0 where the rules name none.
+    // A number and no `Option`: by the rules a refusal answers its number and an item.
     pub fn item(self) -> u32
         ensures { result ≡ item_of self }
     {

@@ -4,7 +4,7 @@ pub enum Answer {
     Done,
     Got(i32),
     /// 1 for the parent, 0 for the copy, -1 where there was no room for one.
-    // A number and no enum: by the rules a machine is handed a number, any one, and may keep it in a cell.
+    // A number and no enum: by the rules a machine means something at every number that it is handed here.
     Fork(i32),
 }
 
@@ -27,6 +27,7 @@ pub struct CellWrite {
 }
 
 /// What a step comes to: where the thread then stands, with which work numbers, at most one cell to write, and a request.
+// Place and work numbers are no struct: see `Machine::step`.
 #[derive(Clone, Copy, PartialEq, Eq, Debug)]
 pub struct Outcome {
     pub place: u16,

@@ -4,6 +4,7 @@ use Rattle.model.specs.declared.faults.Fault.{Fault}
 use Rattle.model.specs.declared.faults.Cause.TheVariants.{NumbersOutOfRange}
 use Rattle.model.specs.declared.faults.Layer.TheVariants.{Machine}
 use Rattle.model.specs.Faults.{fault}
+use Rattle.model.specs.declared.threads.CellWrite.{CellWrite}
 use Rattle.staircase.specs.declared.directions.Direction.{Direction}
 use Rattle.staircase.specs.declared.directions.Direction.TheVariants.{ToSmaller, ToLarger}
 use Rattle.staircase.specs.declared.taps.Tap.{Tap}
@@ -66,6 +67,10 @@ progress_in w =
 
 abbrev pub work_of : Course → List ℤ
 work_of p = pos p.line ∷ pos p.run ∷ pos p.reversals ∷ last_number p.last_move ∷ []
+
+-- a line, written to a cell
+abbrev pub line_write : ℕ → ℕ → CellWrite
+line_write cell line = record { cell = cell; value = pos line }
 
 -- the next line that way, or the same one where the lines end (`-` stops at 0)
 abbrev pub next_line : Direction → ℕ → ℕ

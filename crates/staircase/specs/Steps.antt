@@ -13,7 +13,7 @@ use Rattle.staircase.specs.declared.phases.Phase.{Phase}
 use Rattle.staircase.specs.declared.phases.Phase.TheVariants.{Begin, Show, Judge, Report, End}
 use Rattle.staircase.specs.declared.taps.Tap.{Tap}
 use Rattle.staircase.specs.Taps.{tap_in}
-use Rattle.staircase.specs.Progress.{Course, progress, work_of, judged}
+use Rattle.staircase.specs.Progress.{Course, progress, work_of, line_write, judged}
 use Rattle.staircase.specs.Phases.{phase_at}
 
 -- where the thread then stands, with which numbers, what it writes and what it asks for
@@ -21,7 +21,7 @@ abbrev outcome : ℕ → List ℤ → Option CellWrite → Request → Outcome
 outcome place w write request = record { place = place; work = w; write = write; request = request }
 
 abbrev writes : ℕ → ℕ → Option CellWrite
-writes cell line = Some (record { cell = cell; value = pos line })
+writes cell line = Some (line_write cell line)
 
 -- a measurement begins at the start line
 abbrev pub start : Staircase → Course

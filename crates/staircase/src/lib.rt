@@ -5,7 +5,7 @@ ghost use Rattle.std.specs.Prelude.{◌≤◌};
 
 mod directions;
 mod phases;
-mod places;
+pub mod places;
 mod progress;
 mod stepping;
 pub mod taps;
@@ -39,6 +39,7 @@ impl Staircase {
     ghost use Rattle.staircase.specs.Making.{Made};
 
     /// A staircase that starts at a line, ends after a number of reversals, and writes to two cells. Refused where one of them is out of range.
+    // Four numbers and no struct: this is the test that makes them one, a `Staircase`.
     pub fn new(
         start_line: u32,
         wanted_reversals: u32,

@@ -7,6 +7,7 @@ use crate::progress::Progress;
 use model::faults::Fault;
 
 /// What a staircase's thread is about to do, with its progress where it looks at it.
+// Not one enum with `Place`: a step names the next place and has no progress for it yet.
 #[derive(Clone, Copy)]
 pub enum Phase {
     Begin,
@@ -18,7 +19,7 @@ pub enum Phase {
 
 impl Phase {
     /// The phase that a thread's place and work numbers stand for. A fault where the place is none, or a number is out of its range.
-    // No `TryFrom`: it would take the two as one value, and `Phase::at(place, work)` reads as it is meant.
+    // No `TryFrom`: it would take the two as one value, and `Phase::at(place, work)` reads as it is meant. No struct of the two: see `Machine::step`.
     pub(crate) fn at(place: u16, work: [i32; 4]) -> Result<Phase, Fault>
         ensures { result ≡ phase_at place work }
     {

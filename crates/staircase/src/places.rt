@@ -3,14 +3,14 @@ ghost use Rattle.staircase.specs.Phases.{place_in};
 
 use model::faults::{Cause, Fault, Layer};
 
-/// The places of a staircase's thread, numbered from 0.
+/// The places of a staircase's thread, with their numbers.
 #[derive(Clone, Copy, PartialEq, Eq, Debug)]
 pub enum Place {
-    Begin,
-    Show,
-    Judge,
-    Report,
-    End,
+    Begin = 0,
+    Show = 1,
+    Judge = 2,
+    Report = 3,
+    End = 4,
 }
 
 impl TryFrom<u16> for Place {

@@ -1,10 +1,11 @@
 ghost use Rattle.std.specs.Prelude.{◌≡◌, ◌≤◌};
-ghost use Rattle.staircase.specs.Progress.{out_of_range, up_to, progress_in, work_of, moved, judged};
+ghost use Rattle.staircase.specs.Progress.{out_of_range, up_to, progress_in, work_of, line_write, moved, judged};
 
 use crate::directions::Direction;
 use crate::taps::Tap;
 use crate::{LAST_LINE, MOST_REVERSALS};
 use model::faults::{Cause, Fault, Layer};
+use model::threads::CellWrite;
 use std::marker::Model;
 
 /// The most reversals after a tap: it may add one.
@@ -22,6 +23,7 @@ pub struct Progress<const MOST: u32> {
     pub last_move: Option<Direction>,
 }
 
+// A model and no ghost fields, so that the definitions make a course without proofs.
 impl<const MOST: u32> Model for Progress<MOST> {
     ghost use Rattle.staircase.specs.Progress.{Course, Bounded, progress};
 
@@ -99,6 +101,16 @@ impl Progress<MOST_REVERSALS> {
         }
     }
 
+    /// The line, written to a cell.
+    pub(crate) fn written_to(self, cell: usize) -> CellWrite
+        ensures { result ≡ line_write cell self.line }
+    {
+        CellWrite {
+            cell,
+            value: self.line as i32,
+        }
+    }
+
     /// The progress after a tap.
     pub(crate) fn judge(self, tap: Tap) -> Progress<MOST_AFTER_TAP>
         ensures { result ≡ judged tap self }
@@ -110,6 +122,7 @@ impl Progress<MOST_REVERSALS> {
                 if run == 2 {
                     self.move_to(Direction::ToSmaller)
                 } else {
+                    // Field by field: `..self` keeps the type, and here the bound differs.
                     Progress {
                         line: self.line,
                         run,

@@ -1,5 +1,5 @@
 ghost use Rattle.std.specs.Prelude.{◌≡◌, ◌==◌};
-ghost use Rattle.staircase.specs.Steps.{means, begun, shown, answered, reported};
+ghost use Rattle.staircase.specs.Steps.{means, begun, answered};
 
 use crate::phases::Phase;
 use crate::places::Place;
@@ -9,7 +9,7 @@ use crate::{MOST_REVERSALS, Staircase};
 use model::faults::Fault;
 use model::machines::Machine;
 use model::sides::CELLS;
-use model::threads::{Answer, CellWrite, Outcome, Request};
+use model::threads::{Answer, Outcome, Request};
 
 impl Staircase {
     fn begin(&self) -> Outcome
@@ -29,20 +29,6 @@ impl Staircase {
         }
     }
 
-    fn show(&self, progress: Progress<MOST_REVERSALS>, work: &[i32; 4]) -> Outcome
-        ensures { result ≡ shown self.now progress work.now }
-    {
-        Outcome {
-            place: Place::Judge as u16,
-            work: *work,
-            write: Some(CellWrite {
-                cell: self.show_cell,
-                value: progress.line as i32,
-            }),
-            request: Request::Receive,
-        }
-    }
-
     fn judge(&self, progress: Progress<MOST_REVERSALS>, tap: Tap) -> Outcome
         ensures { result ≡ answered self.now progress tap }
     {
@@ -57,21 +43,6 @@ impl Staircase {
             work: judged.into(),
             write: None,
             request: Request::GoOn,
-        }
-    }
-
-    fn report(&self, progress: Progress<MOST_REVERSALS>, work: &[i32; 4]) -> Outcome
-        ensures { result ≡ reported self.now progress work.now }
-    {
-        let line = progress.line as i32;
-        Outcome {
-            place: Place::End as u16,
-            work: *work,
-            write: Some(CellWrite {
-                cell: self.result_cell,
-                value: line,
-            }),
-            request: Request::Emit(line),
         }
     }
 }
@@ -95,16 +66,29 @@ impl Machine for Staircase {
             request: Request::Receive,
         };
         let phase = Phase::at(place, *work)?;
-        // One match and no table of steps: by the rules a step hangs on place and answer together, and the compiler sees that each is met.
+        // One match and no table of steps: by the rules a step hangs on place and answer together.
+        // By reference: tried by value, and a pair that holds a `Progress` has no proof yet.
         match (&phase, answer) {
             (Phase::Begin, _) => Ok(self.begin()),
-            (Phase::Show(progress), _) => Ok(self.show(*progress, work)),
+            (Phase::Show(progress), _) => Ok(Outcome {
+                place: Place::Judge as u16,
+                write: Some(progress.written_to(self.show_cell)),
+                ..kept
+            }),
             (Phase::Judge(progress), Answer::Got(message)) => Ok(self.judge(
                 *progress,
                 Tap::try_from(message)?,
             )),
             (Phase::Judge(_), _) => Ok(kept),
-            (Phase::Report(progress), _) => Ok(self.report(*progress, work)),
+            (Phase::Report(progress), _) => {
+                let write = progress.written_to(self.result_cell);
+                Ok(Outcome {
+                    place: Place::End as u16,
+                    write: Some(write),
+                    request: Request::Emit(write.value),
+                    ..kept
+                })
+            }
             (Phase::End, _) => Ok(Outcome {
                 request: Request::Stop,
                 ..kept

@@ -3,11 +3,11 @@ ghost use Rattle.staircase.specs.Taps.{tap_in, message_of};
 
 use model::faults::{Cause, Fault, Layer};
 
-/// Whether the customer could read the line that was shown.
+/// Whether the customer could read the line that was shown, with the messages' numbers.
 #[derive(Clone, Copy, PartialEq, Eq, Debug)]
 pub enum Tap {
-    Seen,
-    NotSeen,
+    Seen = 1,
+    NotSeen = 0,
 }
 
 /// The tap that a message stands for, or a fault where it stands for none.
@@ -30,9 +30,6 @@ impl From<Tap> for i32 {
     ghost from_gives = { λ tap message. message ≡ message_of tap };
 
     fn from(tap: Tap) -> i32 {
-        match tap {
-            Tap::Seen => 1,
-            Tap::NotSeen => 0,
-        }
+        tap as i32
     }
 }

@@ -12,6 +12,7 @@ use model::sides::Side;
 use model::threads::Answer;
 use staircase::Staircase;
 
+/// Number and item of the refusal of a staircase, as the rules list them.
 fn staircase_refusal(
     start_line: u32,
     wanted: u32,
@@ -62,23 +63,34 @@ fn a_line_keeps_what_follows_it(rt: HostRuntime) {
     assert!(rt; out == *b"1A2FFFFFFFFE\nxx");
 }
 
-/// Cause, layer and node of the fault that a step ends in.
-fn fault_of(place: u16, work: [i32; 4], answer: Answer) -> Option<(u8, u8, u8)> {
+/// The fault that a step ends in.
+fn fault_of(place: u16, work: [i32; 4], answer: Answer) -> Option<Fault> {
     Staircase::new(5, 2, 0, 1)
         .ok()?
         .step(place, &work, &[0; 64], answer)
         .err()
-        .map(|fault| (fault.cause, fault.layer, fault.node))
+}
+
+/// A fault of the machine layer.
+fn machine_fault(cause: u8) -> Option<Fault> {
+    Some(Fault {
+        cause,
+        layer: 2,
+        node: 0,
+    })
 }
 
 #[test]
 fn faults_have_their_causes(rt: HostRuntime) {
-    assert_eq!(rt; fault_of(5, [0; 4], Answer::Done), Some((2, 2, 0)));
-    assert_eq!(rt; fault_of(2, [5, 0, 0, 0], Answer::Got(2)), Some((3, 2, 0)));
-    assert_eq!(rt; fault_of(2, [14, 0, 0, 0], Answer::Got(2)), Some((4, 2, 0)));
-    assert_eq!(rt; fault_of(1, [5, 2, 0, 0], Answer::Done), Some((4, 2, 0)));
-    assert_eq!(rt; fault_of(3, [5, 0, 16, 0], Answer::Done), Some((4, 2, 0)));
-    assert_eq!(rt; fault_of(3, [5, 0, 0, -2], Answer::Done), Some((4, 2, 0)));
+    assert_eq!(rt; fault_of(5, [0; 4], Answer::Done), machine_fault(2));
+    assert_eq!(rt; fault_of(2, [5, 0, 0, 0], Answer::Got(2)), machine_fault(3));
+    assert_eq!(rt;
+        fault_of(2, [14, 0, 0, 0], Answer::Got(2)),
+        machine_fault(4)
+    );
+    assert_eq!(rt; fault_of(1, [5, 2, 0, 0], Answer::Done), machine_fault(4));
+    assert_eq!(rt; fault_of(3, [5, 0, 16, 0], Answer::Done), machine_fault(4));
+    assert_eq!(rt; fault_of(3, [5, 0, 0, -2], Answer::Done), machine_fault(4));
     assert_eq!(rt; fault_of(2, [13, 1, 15, -1], Answer::Fork(1)), None);
 }
 
