@@ -9,6 +9,7 @@ use std::alloc::Global;
 use worked::worked_cases;
 
 /// Prints the line that a staircase shows after some taps.
+// Staircase and taps are no struct: see `measure`.
 fn print_shown(
     rt: &impl Print,
     heap: Global,

@@ -3,7 +3,7 @@ ghost use Rattle.lines.specs.Hex.{digit_code, hex};
 
 use std::array;
 
-// The crate `hex` writes small letters into a slice, and capitals only on the heap.
+// By hand: by the rules the letters are capitals, nothing here allocates, and the crate `hex` writes capitals only on the heap.
 const DIGITS: [u8; 16] = *b"0123456789ABCDEF";
 
 /// The digit of a number at a place, counted from the right.

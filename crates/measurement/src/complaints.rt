@@ -15,6 +15,7 @@ pub enum Argument {
 }
 
 /// The argument's name, with the numbers that it may be.
+// By hand: `thiserror` derives this only together with `Error`, and an argument is no error.
 impl fmt::Display for Argument {
     fn fmt<W: fmt::Write>(&self, f: &mut fmt::Formatter<W>) -> fmt::Result {
         f.write_str(match self {
@@ -48,7 +49,7 @@ pub enum Complaint {
     Memory,
 }
 
-// By hand: a derived `From` has no contract, and which complaint this is stands in `add_tap`'s.
+// By hand: a derived `From` has no contract, which `add_tap` needs, and wants a variant that holds the library's error.
 impl<T: Drop> From<AllocFailed<T>> for Complaint {
     ghost from_gives = { λ _ complaint. complaint ≡ Memory };
 

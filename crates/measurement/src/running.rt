@@ -35,6 +35,7 @@ pub fn prepare(settings: Settings) -> Result<Staircase, Complaint>
 }
 
 /// Hands the taps to a new thread of the staircase, until it gives its result or the taps run out. Answers the lines that it shows, and its result.
+// Staircase and taps are no struct: see `measure`.
 fn show_and_hear(
     heap: Global,
     staircase: &Staircase,

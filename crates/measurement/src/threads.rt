@@ -31,9 +31,9 @@ fn write_cell(cells: &mut [i32; CELLS], write: Option<CellWrite>)
     }
 }
 
+// The staircase is no field of the thread: by the rules a machine belongs to a side, for all its threads, and a thread is plain data without a lifetime.
 impl Thread {
     /// Takes one step of the staircase and answers what the thread then asks for.
-    // The staircase is no field of the thread: by the rules a machine belongs to a side, for all its threads, and a thread is plain data without a lifetime.
     fn step(&mut self, staircase: &Staircase, answer: Answer) -> Result<Request, Fault>
         ensures value { result ≡ asked staircase.now answer self.old }
         ensures after { self.new ≡ stepped staircase.now answer self.old }

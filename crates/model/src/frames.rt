@@ -29,6 +29,8 @@ pub enum Event {
 #[derive(Clone, Copy, PartialEq, Eq, Debug)]
 pub struct Frame {
     pub side: Option<Side>,
+    /// 0 where no thread was taken out.
+    // A number and no `Option`: by the rules a label is a number, and 0 is one of them.
     pub label: u16,
     pub event: Event,
 }

@@ -14,7 +14,7 @@ pub trait Machine {
     ghost admitted: { Self → ℕ → Bool };
 
     /// The outcome of one step.
-    // Place and work numbers are no struct: most steps change one of the two, and would update a struct within a struct.
+    // Place and work numbers are no struct: a step may change the place alone, and would then update a struct within a struct.
     fn step(
         &self,
         place: u16,

@@ -1,11 +1,11 @@
 ghost use Rattle.std.specs.Prelude.{◌≡◌};
 ghost use Rattle.model.specs.Refusals.{number_of, item_of};
 
-use std::error::Error;
-use std::fmt;
+use thiserror::Error;
 
 /// Why a call was refused, with the numbers of the rules' list. A refused call changes nothing.
-#[derive(Clone, Copy, PartialEq, Eq, Debug)]
+#[derive(Clone, Copy, PartialEq, Eq, Debug, Error)]
+#[error("refused ({number})", number = u8::from(*self))]
 pub enum Refusal {
     /// A staircase's start line, wanted reversals, show cell or result cell is out of range.
     StaircaseOutOfRange = 6,
@@ -33,12 +33,3 @@ impl Refusal {
         }
     }
 }
-
-impl fmt::Display for Refusal {
-    fn fmt<W: fmt::Write>(&self, f: &mut fmt::Formatter<W>) -> fmt::Result {
-        let number = u8::from(*self);
-        write!(f, "refused ({number})")
-    }
-}
-
-impl Error for Refusal {}

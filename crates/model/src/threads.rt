@@ -4,7 +4,7 @@ pub enum Answer {
     Done,
     Got(i32),
     /// 1 for the parent, 0 for the copy, -1 where there was no room for one.
-    // A number and no enum: by the rules a machine means something at every number that it is handed here.
+    // A number and no enum: by the rules, and in the definitions, a machine means something at every number that it is handed here.
     Fork(i32),
 }
 

@@ -40,17 +40,21 @@ last_number None = pos 0
 last_number (Some ToSmaller) = pos 1
 last_number (Some ToLarger) = negsuc 0
 
--- a direction as a number: 1 to smaller letters, −1 to larger ones
-abbrev pub direction_in : ℤ → Result Direction Fault
-direction_in (pos n) = if n == 1 then Ok ToSmaller else Err out_of_range
-direction_in (negsuc n) = if n == 0 then Ok ToLarger else Err out_of_range
-
 abbrev pub last_move_in : ℤ → Result (Option Direction) Fault
 last_move_in (pos zero) = Ok None
 last_move_in (pos (suc zero)) = Ok (Some ToSmaller)
 last_move_in (pos (suc (suc n))) = Err out_of_range
 last_move_in (negsuc zero) = Ok (Some ToLarger)
 last_move_in (negsuc (suc n)) = Err out_of_range
+
+-- the direction of a last move, where there is one
+abbrev direction_of : Result (Option Direction) Fault → Result Direction Fault
+direction_of (Ok (Some d)) = Ok d
+direction_of (Ok None) = Err out_of_range
+direction_of (Err f) = Err f
+
+abbrev pub direction_in : ℤ → Result Direction Fault
+direction_in z = direction_of (last_move_in z)
 
 abbrev and_then : {X Y : Type 0} → Result X Fault → (X → Result Y Fault) → Result Y Fault
 and_then (Ok x) f = f x

@@ -18,6 +18,7 @@ impl TryFrom<i32> for Direction {
     ghost try_from_gives = { λ number direction. direction ≡ direction_in number };
 
     fn try_from(number: i32) -> Result<Direction, Fault> {
+        // The numbers again: a pattern can be no `Direction::ToSmaller as i32`.
         match number {
             1 => Ok(Direction::ToSmaller),
             -1 => Ok(Direction::ToLarger),

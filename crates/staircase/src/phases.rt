@@ -7,7 +7,7 @@ use crate::progress::Progress;
 use model::faults::Fault;
 
 /// What a staircase's thread is about to do, with its progress where it looks at it.
-// Not one enum with `Place`: a step names the next place and has no progress for it yet.
+// Not one enum with `Place`: an outcome has the next place as a number, apart from the work numbers, and a phase would be taken apart into the two again.
 #[derive(Clone, Copy)]
 pub enum Phase {
     Begin,

@@ -19,6 +19,7 @@ impl TryFrom<u16> for Place {
     ghost try_from_gives = { λ number place. place ≡ place_in number };
 
     fn try_from(number: u16) -> Result<Place, Fault> {
+        // The numbers again: a pattern can be no `Place::Begin as u16`.
         match number {
             0 => Ok(Place::Begin),
             1 => Ok(Place::Show),

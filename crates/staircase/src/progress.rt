@@ -47,10 +47,10 @@ fn number_up_to(most: u32, number: i32) -> Result<u32, Fault>
     requires { most ≤ 15 }
     ensures { result ≡ up_to most number }
 {
-    match u32::try_from(number) {
-        Ok(n) if n <= most => Ok(n),
-        _ => Err(out_of_range()),
-    }
+    u32::try_from(number)
+        .ok()
+        .filter(|&n| n <= most)
+        .ok_or_else(out_of_range)
 }
 
 /// The progress that work numbers stand for, or a fault where one is out of its range.

@@ -17,6 +17,7 @@ impl TryFrom<i32> for Tap {
     ghost try_from_gives = { λ message tap. tap ≡ tap_in message };
 
     fn try_from(message: i32) -> Result<Tap, Fault> {
+        // The numbers again: a pattern can be no `Tap::Seen as i32`.
         match message {
             1 => Ok(Tap::Seen),
             0 => Ok(Tap::NotSeen),

@@ -12,7 +12,8 @@ use model::sides::Side;
 use model::threads::Answer;
 use staircase::Staircase;
 
-/// Number and item of the refusal of a staircase, as the rules list them.
+/// Number and item of the refusal of a staircase.
+// A tuple and no `Refusal`, and four numbers and no struct: the rules' list goes by these numbers, and `Staircase::new` is the test that is tried.
 fn staircase_refusal(
     start_line: u32,
     wanted: u32,
