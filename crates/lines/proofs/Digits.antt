@@ -1,12 +1,14 @@
 -- Hexadecimal digits, read as the standard library reads them, give their number back. Assumes nothing.
-use Rattle.std.proofs.Common.{◌≡◌, ℕ, zero, suc, ◌+◌, ◌-◌, map, ◌*◌, ◌/◌, ◌%◌, ◌^◌, ◌<◌, Bool, true, ◌&&◌, eqb, refl, ap, ◌∙◌, mod-lt, mod-eq_of_lt, mul_assoc, add-mul, zero-mul, arith}
+use Rattle.std.proofs.Common.{◌≡◌, ℕ, zero, suc, ◌+◌, ◌-◌, map, ◌*◌, ◌/◌, ◌%◌, ◌^◌, ◌<◌, Bool, true, ◌&&◌, eqb, refl, ap, ◌∙◌, mod-lt, mod-eq_of_lt, mul_assoc, add-mul, zero-mul, arith, List, ℤ, pos, negsuc, SFits, w32}
 use native.Mathlib.Nat.{mod-one, pow-succ', one-le-pow}
 use lib.Arith.{mod-mul}
 use Rattle.std.proofs.lemmas.Bool.Decides.{Decides-eqb, Decides-below_and}
 use Rattle.std.specs.List.{range_with_len}
 use Rattle.std.specs.Str.Parse.{digits_value, digits_value_after}
 use Rattle.std.specs.Char.{digit_value}
-use Rattle.lines.specs.Hex.{digit_code, hex}
+use Rattle.lines.specs.Hex.{digit_code, hex, complement}
+use Rattle.lines.specs.Lines.{reading_line, ReadsBack}
+use Rattle.lines.specs.declared.readings.Reading.{Reading}
 
 -- of each digit, by trying them all
 all_back : ℕ → Bool
@@ -40,3 +42,15 @@ placed N n a (suc w) e =
     let here : N - 1 - a ≡ w = omega arith in
     let r = placed N n (a + 1) w (omega arith) in
     simp (here, r)
+
+complement_small : (z : ℤ) → SFits w32 z → complement z < 16 ^ 8
+complement_small (pos n) f = omega (arith, f.sfits)
+complement_small (negsuc n) f = omega (arith, f.sfits)
+
+-- a reading's line gives label and value back
+pub read_back : (r : Reading) (line : List ℕ) → line ≡ reading_line r → r.label < 16 ^ 4 → SFits w32 r.value → ReadsBack r line
+read_back r line e f g =
+    rw e (record {
+      label = back 4 r.label f;
+      value = back 8 (complement r.value) (complement_small r.value g);
+    })

@@ -16,5 +16,6 @@ abbrev pub reading_line : Reading → List ℕ
 reading_line r = hex 4 r.label ++ hex 8 (complement r.value) ++ 10 ∷ []
 
 -- read as hexadecimal numbers, the line's digits give label and value back
-abbrev pub ReadsBack : Reading → List ℕ → Type 0
-ReadsBack r line = (digits_value 16 (take 4 line) ≡ r.label) × (digits_value 16 (take 8 (drop 4 line)) ≡ complement r.value)
+pub record ReadsBack (r : Reading) (line : List ℕ) : Type 0 where
+  pub label : digits_value 16 (take 4 line) ≡ r.label
+  pub value : digits_value 16 (take 8 (drop 4 line)) ≡ complement r.value

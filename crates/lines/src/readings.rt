@@ -12,19 +12,9 @@ pub struct Reading {
     pub value: i32,
 }
 
-/// The same line. That it can be read back is proved here.
-// Tried without it: behind `&self` the ranges of the fields are not known, and with `self` by value `write_line` no longer closes.
-fn readable(reading: Reading, line: [u8; 13]) -> [u8; 13]
-    requires { line ≡ reading_line reading }
-    ensures same { result ≡ line }
-    ensures back { ReadsBack reading result }
-{
-    line
-}
-
 impl Reading {
-    fn bytes(&self) -> [u8; 13]
-        ensures { result ≡ reading_line self.now }
+    fn bytes(self) -> [u8; 13]
+        ensures { result ≡ reading_line self }
     {
         let mut line = [b'\n'; 13];
         line[..4].copy_from_slice(&digits::<4>(self.label.into()));
@@ -33,11 +23,12 @@ impl Reading {
     }
 
     /// The reading's line: its label and its value.
-    pub fn line(&self) -> [u8; 13]
-        ensures value { result ≡ reading_line self.now }
-        ensures back { ReadsBack self.now result }
+    #[tactic(auto, using(crate::proofs::Digits::read_back))]
+    pub fn line(self) -> [u8; 13]
+        ensures value { result ≡ reading_line self }
+        ensures back { ReadsBack self result }
     {
-        readable(*self, self.bytes())
+        self.bytes()
     }
 }
 
