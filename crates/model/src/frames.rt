@@ -17,7 +17,7 @@ pub enum Event {
     Waits,
     Received(i32),
     /// 1 where the fork made a copy, -1 where the side had no room for one.
-    // A number and no enum: by the rules it is the number that the thread is answered.
+    // A number and no enum: by the rules the value of this event is 1 or -1, what the thread is answered.
     Forked(i32),
     Emitted(i32),
     Stopped,
@@ -63,6 +63,7 @@ impl From<Frame> for Fields {
             node: 0,
             place: 0,
         };
+        // The numbers by hand: an event holds values, and `as` gives no number of it.
         match frame.event {
             Event::Rested => plain(0, 0),
             Event::NoThread => plain(1, 0),

@@ -63,6 +63,7 @@ impl TryFrom<[i32; 4]> for Progress<MOST_REVERSALS> {
         let line = number_up_to(LAST_LINE, work[0])?;
         let run = number_up_to(1, work[1])?;
         let reversals = number_up_to(MOST_REVERSALS, work[2])?;
+        // 0 for none: by the rules the fourth work number is 0 before the first move.
         let last_move = match work[3] {
             0 => None,
             number => Some(Direction::try_from(number)?),

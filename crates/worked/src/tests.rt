@@ -65,6 +65,7 @@ fn a_line_keeps_what_follows_it(rt: HostRuntime) {
 }
 
 /// The fault that a step ends in.
+// Place and work numbers are no struct: see `Machine::step`.
 fn fault_of(place: u16, work: [i32; 4], answer: Answer) -> Option<Fault> {
     Staircase::new(5, 2, 0, 1)
         .ok()?
