@@ -34,7 +34,8 @@ pub enum Complaint {
     #[error("{0}: not a number, or too large a one")]
     NotANumber(Argument),
     /// The staircase refuses an argument.
-    #[error("{argument}: out of range, {refusal}")]
+    // The number and not `{refusal}`, which comes in one piece more: a writer without room for all would hold another beginning.
+    #[error("{argument}: out of range, refused ({number})", number = u8::from(*.refusal))]
     Refused {
         argument: Argument,
         refusal: Refusal,

@@ -11,6 +11,9 @@ pub progress_back : (p : Course) → Bounded 15 p → progress_in (work_of p) �
 progress_back p b =
     grind (arith, nat_tests, b.line_exists, b.short_run, b.few)
 
+judged_line : (t : Tap) (p : Course) → p.line ≤ 13 → (judged t p).line ≤ 13
+judged_line t p h = grind (arith, nat_tests)
+
 judged_run : (t : Tap) (p : Course) → p.run ≤ 1 → (judged t p).run ≤ 1
 judged_run t p h = grind (arith, nat_tests)
 
@@ -22,7 +25,7 @@ judged_climbs t p = grind (arith, nat_tests)
 pub judged_bounded : (t : Tap) (m : ℕ) (p : Course) → Bounded m p → Bounded (m + 1) (judged t p)
 judged_bounded t m p b =
     record {
-      line_exists = grind (arith, nat_tests, b.line_exists);
+      line_exists = judged_line t p b.line_exists;
       short_run = judged_run t p b.short_run;
       few = grind (arith, nat_tests, b.few);
     }
